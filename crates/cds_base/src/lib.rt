@@ -1,0 +1,34 @@
+//! The words that every crate of the data system shares: names, texts and byte strings, the plain types of
+//! integration, the counter of steps, and the traits of the outside with their objects in memory.
+//!
+//! Begin at [`Name`] for what a thing is called, at [`Source`] and [`Sink`] for how bytes come and go, and at
+//! [`Steps`] for how reads of samples are counted.
+#![tactic(auto)]
+
+mod bytes;
+mod event;
+mod failed;
+mod mem_sink;
+mod mem_source;
+mod name;
+mod no_fail;
+mod peak;
+mod sink;
+mod source;
+mod steps;
+mod text;
+
+pub use bytes::Bytes;
+pub use event::{Event, EventList};
+pub use failed::Failed;
+pub use mem_sink::MemSink;
+pub use mem_source::MemSource;
+pub use name::{MOST_NAME_BYTES, Name};
+pub use no_fail::{NoFailSink, NoFailSource};
+pub use peak::{Line, Missing, Peak, Ratio, RawPeak, Window};
+pub use sink::Sink;
+pub use source::Source;
+/// Want of memory: the one answer that no rule ties to the values of a call.
+pub use std::alloc::AllocError as NoMemory;
+pub use steps::Steps;
+pub use text::Text;

@@ -1,0 +1,82 @@
+ghost use Rattle.std.specs.Prelude.{◌≡◌, ◌<◌, [], length, Some, IfOk};
+
+use crate::failed::Failed;
+use crate::source::{Source, give};
+use std::alloc::{AllocError, Global};
+use std::marker::Model;
+
+/// A source in memory, which tells what it has given and what is left. Each call gives at most as many bytes as
+/// its piece has, and the calls whose numbers, counted from 1, it was made with fail.
+#[derive(Debug, Drop)]
+pub struct MemSource {
+    bytes: Vec<u8>,
+    at: usize,
+    piece: usize,
+    failing: Vec<u64>,
+    calls: u64,
+    faults: u64,
+}
+
+impl Model for MemSource {
+    ghost use Rattle.std.specs.Prelude.{◌<◌, ◌≤◌, take, drop, vec_len};
+    ghost use Rattle.cds_base.specs.Source.{SourceState};
+
+    ghost Value = { SourceState };
+
+    ghost view = { λ a. record { given = take a.at a.bytes.items; left = drop a.at a.bytes.items; faults = a.faults; calls = a.calls; failing = a.failing.items } };
+
+    ghost invariant = { λ a. (a.at ≤ vec_len a.bytes) × (0 < a.piece) };
+}
+
+impl MemSource {
+    /// A source with these bytes left, which gives at most `piece` of them in one call and fails at the calls
+    /// whose numbers are listed.
+    pub fn new(
+        alloc: Global,
+        bytes: &[u8],
+        piece: usize,
+        failing: &[u64],
+    ) -> Result<MemSource, AllocError>
+        requires { 0 < piece }
+        ensures { IfOk result (λ s. s ≡ record { given = []; left = bytes.now; faults = 0; calls = 0; failing = failing.now }) }
+    {
+        Ok(MemSource {
+            bytes: Vec::from_slice(alloc, bytes)?,
+            at: 0,
+            piece,
+            failing: Vec::from_slice(alloc, failing)?,
+            calls: 0,
+            faults: 0,
+        })
+    }
+
+    /// The bytes that are left to read.
+    pub fn left(&self) -> &[u8]
+        ensures { result.now ≡ self.now.left }
+    {
+        &self.bytes[self.at..]
+    }
+}
+
+impl Source for MemSource {
+    ghost given = { λ s. Some s.given };
+
+    ghost left = { λ s. Some s.left };
+
+    ghost bound = { λ s. length s.left };
+
+    ghost faults = { λ s. s.faults };
+
+    /// Fails exactly at the calls that are to fail.
+    #[tactic(auto, using(crate::proofs::Reading::take_read, crate::proofs::Reading::left_read))]
+    fn read(&mut self, buf: &mut [u8]) -> Result<usize, Failed> {
+        self.calls = self.calls.saturating_add(1);
+        if self.failing.contains(&self.calls) {
+            self.faults = self.faults.saturating_add(1);
+            return Err(Failed);
+        }
+        let count = give(&self.bytes, self.at, self.piece, buf);
+        self.at += count;
+        Ok(count)
+    }
+}
