@@ -1,0 +1,14 @@
+use Rattle.std.proofs.Common.{◌≡◌, ℕ, Option, Some, None, refl, sym, arith, rules}
+use Rattle.std.proofs.lemmas.Grind.{common_steps}
+use Rattle.cds_desk.specs.Words.{settings_from}
+use Rattle.cds_desk.specs.declared.words.Settings.{Settings}
+use Rattle.cds_desk.proofs.words.read_words.Goals as goal
+
+-- nothing is set where the second number is not there
+none_second : (b on off p : Option ℕ) → None ≡ on → None ≡ settings_from b on off p
+none_second None on off p e = refl
+none_second (Some b) None off p e = refl
+none_second (Some b) (Some on) off p e = cc
+
+pub returns-in_default-number_in : goal.returns-in_default-number_in
+returns-in_default-number_in c = rw (← c.if-not-are_peaks_words.ensures) (none_second _ _ _ _ (grind (arith, common_steps)))

@@ -1,0 +1,7 @@
+-- What a sink holds where a text was sent to it.
+use Rattle.std.specs.Prelude.{◌≡◌, ℕ, ◌≤◌, List, length, take, Option}
+use Rattle.cds_base.specs.Told.{then_more}
+
+-- the sink holds some front of the text behind what it held
+abbrev pub HoldsPrefix : Option (List ℕ) → Option (List ℕ) → List ℕ → Type 0
+HoldsPrefix before now text = (k : ℕ) × (k ≤ length text) × (now ≡ then_more before (take k text))

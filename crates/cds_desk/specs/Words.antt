@@ -1,0 +1,54 @@
+-- The words of the command line: which lists of words are a command, and what they set.
+use Rattle.std.specs.Prelude.{◌≡◌, ℕ, ◌^◌, ◌&&◌, ◌==◌, Bool, List, [], length, codes, slice_index_or, Option, Some, None, nat_le, nat_lt, if◌then◌else◌}
+use Rattle.std.specs.Char.{is_ascii_digit}
+use Rattle.std.specs.List.{list_all}
+use Rattle.std.specs.Str.{bytes_eq}
+use Rattle.std.specs.Str.Parse.{digits_value}
+use Rattle.cds_desk.specs.declared.words.Settings.{Settings}
+
+-- 1 to 20 decimal digits, and nothing else
+abbrev pub is_number : List ℕ → Bool
+is_number word = (nat_le 1 (length word) && nat_le (length word) 20) && list_all is_ascii_digit word
+
+-- a number below 2^64
+abbrev pub below_2_64 : ℕ → Option ℕ
+below_2_64 n = if nat_lt n (2 ^ 64) then Some n else None
+
+-- the number that 1 to 20 decimal digits write, where it is below 2^64
+abbrev pub number_of : List ℕ → Option ℕ
+number_of word = if is_number word then below_2_64 (digits_value 10 word) else None
+
+-- a number that lies from `low` to `high`
+abbrev pub within : ℕ → ℕ → Option ℕ → Option ℕ
+within low high (Some n) = if nat_le low n && nat_le n high then Some n else None
+within low high None = None
+
+-- the number that the word writes in digits, where it lies from `low` to `high`
+abbrev pub number_in : ℕ → ℕ → List ℕ → Option ℕ
+number_in low high word = within low high (number_of word)
+
+-- the word at a place, counted from 0
+abbrev pub word_at : List (List ℕ) → ℕ → List ℕ
+word_at words i = slice_index_or words i []
+
+-- nine words, with `peaks` and the names of the options at their places
+abbrev pub are_peaks_words : List (List ℕ) → Bool
+are_peaks_words words =
+    (((((length words == 9)
+    && bytes_eq (word_at words 0) (codes "peaks"))
+    && bytes_eq (word_at words 1) (codes "--bunch"))
+    && bytes_eq (word_at words 3) (codes "--on"))
+    && bytes_eq (word_at words 5) (codes "--off"))
+    && bytes_eq (word_at words 7) (codes "--plateau")
+
+-- four numbers as settings, where each is there
+abbrev pub settings_from : Option ℕ → Option ℕ → Option ℕ → Option ℕ → Option Settings
+settings_from (Some bunch) (Some on) (Some off) (Some plateau) = Some (record { bunch = bunch; slope_on = on; slope_off = off; plateau = plateau })
+settings_from _ _ _ _ = None
+
+-- what the words `peaks --bunch B --on T --off T --plateau P` set, where they are these words and each number is in its range
+abbrev pub settings_of : List (List ℕ) → Option Settings
+settings_of words =
+    if are_peaks_words words
+    then settings_from (number_in 1 64 (word_at words 2)) (number_in 1 1000000000 (word_at words 4)) (number_in 1 1000000000 (word_at words 6)) (number_in 0 1000 (word_at words 8))
+    else None

@@ -1,0 +1,56 @@
+ghost use Rattle.std.specs.Prelude.{◌≡◌, ◌≢◌, ℕ, ◌<◌, ◌≤◌, [], length, IfOk, OnOk, OnErr, IfSome, IsErrOf, vec_len};
+ghost use Rattle.cds_base.specs.Faults.{Rose};
+ghost use Rattle.cds_base.specs.Told.{then_more, more_before};
+ghost use Rattle.cds_desk.specs.declared.receiving.ReceiveError.TheVariants.{NoMemory};
+ghost use Rattle.cds_desk.specs.declared.receiving.TheConstants.{MOST_SOURCE_BYTES};
+
+use std::alloc::{AllocError, Global};
+
+use cds_base::{Failed, Source};
+
+/// The most bytes that a command reads from its source.
+pub const MOST_SOURCE_BYTES: usize = 4_194_304;
+
+/// How many bytes are asked for in one read.
+const PIECE_BYTES: usize = 65_536;
+
+/// Why a source was not read.
+#[derive(Clone, Copy, Debug, PartialEq, Eq)]
+pub(crate) enum ReceiveError {
+    Failed,
+    NoMemory,
+}
+
+impl From<AllocError> for ReceiveError {
+    ghost from_gives = { λ _ e. e ≡ NoMemory };
+
+    fn from(_e: AllocError) -> ReceiveError {
+        ReceiveError::NoMemory
+    }
+}
+
+#[tactic(auto, using(cds_base::proofs::ToldLaws::more_before_twice))]
+/// The bytes of the source, up to its end or until they are more than a command may read.
+pub(crate) fn receive<S: Source>(alloc: Global, source: &mut S) -> Result<Vec<u8>, ReceiveError>
+    ensures takes { IfOk result (λ bytes. S.left source.old ≡ more_before bytes.items (S.left source.new)) }
+    ensures ended { IfOk result (λ bytes. vec_len bytes ≤ MOST_SOURCE_BYTES → IfSome (S.left source.new) (λ rest. rest ≡ [])) }
+    ensures counts { S.faults source.old ≤ S.faults source.new }
+    ensures failed { IsErrOf result ReceiveError.Failed → Rose (S.faults source.old) (S.faults source.new) }
+{
+    let mut piece = zeros(alloc, PIECE_BYTES)?;
+    let mut bytes = Vec::new(alloc);
+    while bytes.len() <= MOST_SOURCE_BYTES {
+        match source.read(&mut piece) {
+            Err(Failed) => return Err(ReceiveError::Failed),
+            Ok(0) => return Ok(bytes),
+            Ok(count) => bytes.extend_from_slice(&piece[..count])?,
+        }
+    }
+    Ok(bytes)
+}
+
+fn zeros(alloc: Global, count: usize) -> Result<Vec<u8>, AllocError>
+    ensures { IfOk result (λ bytes. vec_len bytes ≡ count) }
+{
+    vec![in alloc; 0; count]
+}

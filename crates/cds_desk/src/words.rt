@@ -1,0 +1,115 @@
+ghost use Rattle.std.specs.Prelude.{◌≡◌, IsTrue, map};
+ghost use Rattle.std.specs.Char.{is_ascii_digit};
+ghost use Rattle.std.specs.List.{list_all};
+ghost use Rattle.std.specs.Str.{bytes_eq};
+ghost use Rattle.std.specs.Str.Parse.{digits_value};
+ghost use Rattle.std.specs.String.{string_bytes};
+ghost use Rattle.cds_desk.specs.Words.{settings_of, are_peaks_words, number_in, number_of, is_number, below_2_64};
+
+/// The most samples in a bunch.
+const MOST_BUNCH: u32 = 64;
+
+/// The greatest slope threshold, in counts per second.
+const GREATEST_SLOPE: u32 = 1_000_000_000;
+
+/// The most flat bunches that a climb passes over.
+const MOST_PLATEAU: u32 = 1_000;
+
+/// What the words of `peaks` set.
+#[derive(Clone, Copy, Debug, PartialEq, Eq)]
+pub(crate) struct Settings {
+    pub bunch: u32,
+    pub slope_on: u32,
+    pub slope_off: u32,
+    pub plateau: u32,
+}
+
+/// The settings that the words state: `peaks --bunch B --on T --off T --plateau P`, each option as two words
+/// and in this order. None exactly where the words are no command.
+pub(crate) fn read_words(words: &[String]) -> Option<Settings>
+    ensures { result ≡ settings_of (map string_bytes words.now) }
+{
+    if !are_peaks_words(words) {
+        return None;
+    }
+    let Some(bunch) = number_in(&words[2], 1, MOST_BUNCH) else {
+        return None;
+    };
+    let Some(slope_on) = number_in(&words[4], 1, GREATEST_SLOPE) else {
+        return None;
+    };
+    let Some(slope_off) = number_in(&words[6], 1, GREATEST_SLOPE) else {
+        return None;
+    };
+    let Some(plateau) = number_in(&words[8], 0, MOST_PLATEAU) else {
+        return None;
+    };
+    Some(Settings {
+        bunch,
+        slope_on,
+        slope_off,
+        plateau,
+    })
+}
+
+/// Whether there are nine words, with `peaks` and the names of the options at their places.
+fn are_peaks_words(words: &[String]) -> bool
+    ensures { result ≡ are_peaks_words (map string_bytes words.now) }
+{
+    words.len() == 9
+        && is_word(&words[0], "peaks")
+        && is_word(&words[1], "--bunch")
+        && is_word(&words[3], "--on")
+        && is_word(&words[5], "--off")
+        && is_word(&words[7], "--plateau")
+}
+
+fn is_word(word: &String, text: &str) -> bool
+    ensures { result ≡ bytes_eq (string_bytes word.now) text.now }
+{
+    word.as_str() == text
+}
+
+/// The number that 1 to 20 digits write, where it lies from `low` to `high`.
+fn number_in(word: &String, low: u32, high: u32) -> Option<u32>
+    ensures { result ≡ number_in low high (string_bytes word.now) }
+{
+    let Some(number) = number_of(word.as_str()) else {
+        return None;
+    };
+    if (low as u64) <= number && number <= (high as u64) {
+        Some(number as u32)
+    } else {
+        None
+    }
+}
+
+/// The number that 1 to 20 digits write. None exactly where the text is none such, or the number is 2^64 or more.
+fn number_of(text: &str) -> Option<u64>
+    ensures { result ≡ number_of text.now }
+{
+    if is_number(text) {
+        parse_digits(text)
+    } else {
+        None
+    }
+}
+
+fn is_number(text: &str) -> bool
+    ensures { result ≡ is_number text.now }
+{
+    1 <= text.len() && text.len() <= 20 && are_digits(text)
+}
+
+fn are_digits(text: &str) -> bool
+    ensures { result ≡ list_all is_ascii_digit text.now }
+{
+    text.bytes().all(|byte| byte.is_ascii_digit())
+}
+
+fn parse_digits(digits: &str) -> Option<u64>
+    requires { IsTrue (is_number digits.now) }
+    ensures { result ≡ below_2_64 (digits_value 10 digits.now) }
+{
+    digits.parse::<u64>().ok()
+}
