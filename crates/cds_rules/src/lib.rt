@@ -1,0 +1,19 @@
+//! A method: how the peaks of a trace are found, measured, named, calibrated and judged. Every number of a
+//! method lies in the range that is stated for it, and every list within its count, by the type itself.
+//!
+//! Begin at [`Method`] for what a method states, and at its file of limits for each range.
+#![tactic(auto)]
+
+mod check;
+mod component;
+mod limits;
+mod method;
+
+pub use check::{Check, CheckKind, CheckList};
+pub use component::{Component, ComponentList};
+pub use limits::{
+    LAST_TIME_MS, MOST_AREA, MOST_BUNCH, MOST_CHECKS, MOST_COMPONENTS, MOST_DEAD_TIME_US,
+    MOST_EVENTS, MOST_FUSE, MOST_HEIGHT, MOST_LIMIT, MOST_METHOD_BYTES, MOST_PLATEAU,
+    MOST_R2_LIMIT, MOST_SLOPE, RULES,
+};
+pub use method::{Method, Weight};

@@ -1,0 +1,46 @@
+//! The limits of a method. Each is the greatest value that is allowed; all are this project's own.
+
+/// The most samples that make one bunch.
+pub const MOST_BUNCH: u32 = 64;
+
+/// The greatest slope threshold, in counts per second.
+pub const MOST_SLOPE: u32 = 1_000_000_000;
+
+/// The most flat bunches that a peak may have at its top.
+pub const MOST_PLATEAU: u32 = 1_000;
+
+/// The most bunches over which neighbouring peaks are fused into one cluster.
+pub const MOST_FUSE: u32 = 1_000;
+
+/// The greatest least area, in count milliseconds.
+pub const MOST_AREA: u64 = 4_000_000_000_000_000;
+
+/// The greatest least height, in counts.
+pub const MOST_HEIGHT: u32 = 200_000_000;
+
+/// The greatest dead time, in microseconds: four hours.
+pub const MOST_DEAD_TIME_US: u64 = 14_400_000_000;
+
+/// The last time of an event, a component or a noise window, in milliseconds: four hours.
+pub const LAST_TIME_MS: u32 = 14_400_000;
+
+/// The edition of the rules of integration.
+pub const RULES: u8 = 1;
+
+/// The most components of a method.
+pub const MOST_COMPONENTS: usize = 32;
+
+/// The most events of a method.
+pub const MOST_EVENTS: usize = 64;
+
+/// The most checks of a method.
+pub const MOST_CHECKS: usize = 64;
+
+/// The greatest limit of a check other than the one of determination, in the unit of its kind.
+pub const MOST_LIMIT: u32 = 1_000_000;
+
+/// The greatest limit of a check of determination, in ten-thousandths.
+pub const MOST_R2_LIMIT: u32 = 10_000;
+
+/// The most bytes of a method's text.
+pub const MOST_METHOD_BYTES: usize = 65_536;
