@@ -1,0 +1,36 @@
+use thiserror::Error;
+
+/// Why bytes or samples are no trace. The first eight are refusals with the numbers 1 to 8, in this order; where
+/// one carries a number, it is that of the record at fault, the header being record 1. The numbers and the order
+/// in which the causes are judged are this project's own.
+#[derive(Clone, Copy, Debug, PartialEq, Eq, Error)]
+pub enum TraceError {
+    /// A record behind the header has not two fields.
+    #[error("record {0} has not two fields")]
+    BadCsv(u32),
+    /// There is no record, or the first is not `time_us` and `signal`.
+    #[error("the header is not time_us,signal")]
+    BadHeader,
+    /// A field is no number: no optional `-` and 1 to 12 digits.
+    #[error("a field of record {0} is no number")]
+    NotNumber(u32),
+    /// A time is not the one that the period gives, or the second time is 0.
+    #[error("the time of record {0} is not the expected one")]
+    Uneven(u32),
+    /// There are fewer than two samples.
+    #[error("there are fewer than two samples")]
+    TooShort,
+    /// There are more than 100,000 samples.
+    #[error("there are more than 100000 samples")]
+    TooLong,
+    /// A time is below 0 or above 14,400,000,000 microseconds, or a sample is below -100,000,000 or above
+    /// 100,000,000.
+    #[error("a number of record {0} is out of range")]
+    OutOfRange(u32),
+    /// The period is 0, or the last sample would be later than 14,400,000,000 microseconds.
+    #[error("the period is 0 or too long")]
+    BadPeriod,
+    /// Memory is wanting. This is no refusal and has no number.
+    #[error("out of memory")]
+    NoMemory,
+}

@@ -1,0 +1,11 @@
+//! Detector traces: samples of a signal, one in each period, their reads, which are counted, and their CSV.
+//!
+//! Begin at [`Trace`]: it is made by [`Trace::read_csv`] or [`Trace::from_samples`], and read by [`Trace::at`] and
+//! [`Trace::sum`].
+#![tactic(auto)]
+
+mod error;
+mod trace;
+
+pub use error::TraceError;
+pub use trace::{FEWEST_SAMPLES, GREATEST_SAMPLE, LAST_TIME_US, MOST_SAMPLES, Trace};
