@@ -1,0 +1,4 @@
+pub mod Divisors
+pub mod Fraction
+pub mod FractionOrder
+pub mod FractionLaws
