@@ -1,2 +1,3 @@
 pub mod SendingLaws
 pub mod Numbers
+pub mod ReceivingLaws

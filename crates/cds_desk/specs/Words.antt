@@ -4,7 +4,7 @@ use Rattle.std.specs.Char.{is_ascii_digit}
 use Rattle.std.specs.List.{list_all}
 use Rattle.std.specs.Str.{bytes_eq}
 use Rattle.std.specs.Str.Parse.{digits_value}
-use Rattle.cds_desk.specs.declared.words.Settings.{Settings}
+use Rattle.cds_desk.specs.declared.words.PeaksOptions.{PeaksOptions}
 
 -- 1 to 20 decimal digits, and nothing else
 abbrev pub is_number : List ℕ → Bool
@@ -41,14 +41,14 @@ are_peaks_words words =
     && bytes_eq (word_at words 5) (codes "--off"))
     && bytes_eq (word_at words 7) (codes "--plateau")
 
--- four numbers as settings, where each is there
-abbrev pub settings_from : Option ℕ → Option ℕ → Option ℕ → Option ℕ → Option Settings
-settings_from (Some bunch) (Some on) (Some off) (Some plateau) = Some (record { bunch = bunch; slope_on = on; slope_off = off; plateau = plateau })
-settings_from _ _ _ _ = None
+-- four numbers as options, where each is there
+abbrev pub options_from : Option ℕ → Option ℕ → Option ℕ → Option ℕ → Option PeaksOptions
+options_from (Some bunch) (Some on) (Some off) (Some plateau) = Some (record { bunch = bunch; slope_on = on; slope_off = off; plateau = plateau })
+options_from _ _ _ _ = None
 
 -- what the words `peaks --bunch B --on T --off T --plateau P` set, where they are these words and each number is in its range
-abbrev pub settings_of : List (List ℕ) → Option Settings
-settings_of words =
+abbrev pub options_of : List (List ℕ) → Option PeaksOptions
+options_of words =
     if are_peaks_words words
-    then settings_from (number_in 1 64 (word_at words 2)) (number_in 1 1000000000 (word_at words 4)) (number_in 1 1000000000 (word_at words 6)) (number_in 0 1000 (word_at words 8))
+    then options_from (number_in 1 64 (word_at words 2)) (number_in 1 1000000000 (word_at words 4)) (number_in 1 1000000000 (word_at words 6)) (number_in 0 1000 (word_at words 8))
     else None

@@ -1,6 +1,6 @@
-ghost use Rattle.std.specs.Prelude.{◌≡◌, ◌≢◌, ℕ, ◌<◌, ◌≤◌, [], length, IfOk, OnOk, OnErr, IfSome, IsErrOf, vec_len};
+ghost use Rattle.std.specs.Prelude.{◌≡◌, ◌≤◌, [], IfOk, IfSome, IsErrOf, vec_len};
 ghost use Rattle.cds_base.specs.Faults.{Rose};
-ghost use Rattle.cds_base.specs.Told.{then_more, more_before};
+ghost use Rattle.cds_desk.specs.Receiving.{AreReceived};
 ghost use Rattle.cds_desk.specs.declared.receiving.ReceiveError.TheVariants.{NoMemory};
 ghost use Rattle.cds_desk.specs.declared.receiving.TheConstants.{MOST_SOURCE_BYTES};
 
@@ -29,10 +29,11 @@ impl From<AllocError> for ReceiveError {
     }
 }
 
-#[tactic(auto, using(cds_base::proofs::ToldLaws::more_before_twice))]
-/// The bytes of the source, up to its end or until they are more than a command may read.
+/// The bytes of the source, up to its end or until they are more than a command may read. `Failed` comes only
+/// where the source's count of faults rose.
+#[tactic(auto, using(cds_base::proofs::ToldLaws::more_before_twice, crate::proofs::ReceivingLaws::received_all, crate::proofs::ReceivingLaws::received_too_many))]
 pub(crate) fn receive<S: Source>(alloc: Global, source: &mut S) -> Result<Vec<u8>, ReceiveError>
-    ensures takes { IfOk result (λ bytes. S.left source.old ≡ more_before bytes.items (S.left source.new)) }
+    ensures all { IfOk result (λ bytes. IfSome (S.left source.old) (λ all. AreReceived all bytes.items)) }
     ensures ended { IfOk result (λ bytes. vec_len bytes ≤ MOST_SOURCE_BYTES → IfSome (S.left source.new) (λ rest. rest ≡ [])) }
     ensures counts { S.faults source.old ≤ S.faults source.new }
     ensures failed { IsErrOf result ReceiveError.Failed → Rose (S.faults source.old) (S.faults source.new) }

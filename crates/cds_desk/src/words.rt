@@ -4,7 +4,7 @@ ghost use Rattle.std.specs.List.{list_all};
 ghost use Rattle.std.specs.Str.{bytes_eq};
 ghost use Rattle.std.specs.Str.Parse.{digits_value};
 ghost use Rattle.std.specs.String.{string_bytes};
-ghost use Rattle.cds_desk.specs.Words.{settings_of, are_peaks_words, number_in, number_of, is_number, below_2_64};
+ghost use Rattle.cds_desk.specs.Words.{options_of, are_peaks_words, number_in, number_of, is_number, below_2_64};
 
 /// The most samples in a bunch.
 const MOST_BUNCH: u32 = 64;
@@ -17,17 +17,17 @@ const MOST_PLATEAU: u32 = 1_000;
 
 /// What the words of `peaks` set.
 #[derive(Clone, Copy, Debug, PartialEq, Eq)]
-pub(crate) struct Settings {
+pub(crate) struct PeaksOptions {
     pub bunch: u32,
     pub slope_on: u32,
     pub slope_off: u32,
     pub plateau: u32,
 }
 
-/// The settings that the words state: `peaks --bunch B --on T --off T --plateau P`, each option as two words
+/// The options that the words state: `peaks --bunch B --on T --off T --plateau P`, each option as two words
 /// and in this order. None exactly where the words are no command.
-pub(crate) fn read_words(words: &[String]) -> Option<Settings>
-    ensures { result ≡ settings_of (map string_bytes words.now) }
+pub(crate) fn read_words(words: &[String]) -> Option<PeaksOptions>
+    ensures { result ≡ options_of (map string_bytes words.now) }
 {
     if !are_peaks_words(words) {
         return None;
@@ -44,7 +44,7 @@ pub(crate) fn read_words(words: &[String]) -> Option<Settings>
     let Some(plateau) = number_in(&words[8], 0, MOST_PLATEAU) else {
         return None;
     };
-    Some(Settings {
+    Some(PeaksOptions {
         bunch,
         slope_on,
         slope_off,

@@ -1,11 +1,11 @@
 use Rattle.std.proofs.Common.{◌≡◌, ℕ, Option, Some, None, refl, sym, arith, rules}
 use Rattle.std.proofs.lemmas.Grind.{common_steps}
-use Rattle.cds_desk.specs.Words.{settings_from}
-use Rattle.cds_desk.specs.declared.words.Settings.{Settings}
+use Rattle.cds_desk.specs.Words.{options_from}
+use Rattle.cds_desk.specs.declared.words.PeaksOptions.{PeaksOptions}
 use Rattle.cds_desk.proofs.words.read_words.Goals as goal
 
 -- nothing is set where the second number is not there
-none_second : (b on off p : Option ℕ) → None ≡ on → None ≡ settings_from b on off p
+none_second : (b on off p : Option ℕ) → None ≡ on → None ≡ options_from b on off p
 none_second None on off p e = refl
 none_second (Some b) None off p e = refl
 none_second (Some b) (Some on) off p e = cc
