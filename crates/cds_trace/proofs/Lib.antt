@@ -1,1 +1,3 @@
 pub mod SignalLaws
+pub mod NumberLaws
+pub mod LimitLaws
