@@ -1,6 +1,6 @@
 -- Laws of the limits of a trace.
-use Rattle.std.proofs.Common.{◌≡◌, ◌∙◌, ℕ, ◌<◌, ◌≤◌, Bool, true, false, ℤ, pos, neg_ℤ, ◌≤ℤ◌, List, All, get_or, length, Option, Some, None, arith, not, cond, refl}
-use Rattle.std.specs.Prelude.{◌&&◌, int_le, position, nat_lt}
+use Rattle.std.proofs.Common.{◌≡◌, ◌<◌, Bool, true, false, ℤ, List, All, get_or, length, Some, None, arith, not, cond, refl}
+use Rattle.std.specs.Prelude.{position, nat_lt}
 use Rattle.std.specs.List.{position_or_len}
 use Rattle.std.proofs.lemmas.Int.{ints}
 use Rattle.std.proofs.lemmas.Bool.Decides.{nat_tests}

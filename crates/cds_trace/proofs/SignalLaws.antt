@@ -1,5 +1,5 @@
 -- Laws of sums of samples.
-use Rattle.std.proofs.Common.{◌≡◌, ◌∙◌, ℕ, ◌+◌, ◌-◌, ◌*◌, ◌<◌, ◌≤◌, ℤ, pos, neg_ℤ, ◌+ℤ◌, ◌-ℤ◌, ◌≤ℤ◌, List, [], ◌∷◌, ◌++◌, All, fold, get_or, length, take, drop, arith, ap, subst, sym, refl, inl, inr, w64}
+use Rattle.std.proofs.Common.{◌≡◌, ◌∙◌, ℕ, ◌+◌, ◌-◌, ◌*◌, ◌<◌, ◌≤◌, ℤ, pos, neg_ℤ, ◌+ℤ◌, ◌-ℤ◌, ◌≤ℤ◌, List, [], ◌∷◌, ◌++◌, All, fold, get_or, length, take, drop, arith, ap, subst, sym, inl, inr, w64}
 use Rattle.std.specs.Prelude.{◌⊎◌, FitsSigned, slice_range}
 use Rattle.std.proofs.lemmas.Int.{ints}
 use Rattle.std.proofs.lemmas.List.{get_or_read, get_or_append_left, get_or_push, length_push, take-append-drop, take-take, drop-take, length-take, length-drop}

@@ -1,5 +1,5 @@
 -- A period and samples as a trace.
-use Rattle.std.specs.Prelude.{ℕ, ◌+◌, ◌-◌, ◌*◌, ◌||◌, ◌==◌, not, nat_lt, if◌then◌else◌, ℤ, List, length, position, Option, Some, None, Result, Ok, Err}
+use Rattle.std.specs.Prelude.{ℕ, ◌-◌, ◌*◌, ◌||◌, ◌==◌, not, nat_lt, if◌then◌else◌, ℤ, List, length, position, Option, Some, None, Result, Ok, Err}
 use Rattle.cds_trace.specs.Signal.{Signal}
 use Rattle.cds_trace.specs.TraceText.{is_sample, record_of}
 use Rattle.cds_trace.specs.declared.error.TraceError.{TraceError}

@@ -6,3 +6,4 @@ pub mod TraceText
 pub mod GivenSamples
 pub mod Rows
 pub mod Refusal
+pub mod Period

@@ -1,6 +1,6 @@
 -- The text of a trace: records of two fields, a time in microseconds and a sample, behind a header. The first
 -- record that breaks a rule decides, and then the first rule in the order that is stated here. This project's own.
-use Rattle.std.specs.Prelude.{◌≡◌, ◌⊎◌, ℕ, ◌+◌, ◌*◌, Bool, true, false, not, ◌&&◌, ◌||◌, ◌==◌, nat_le, nat_lt, nat_eq, if◌then◌else◌, ℤ, pos, negsuc, neg_ℤ, int_le, List, [], ◌∷◌, length, Option, Some, None, Result, Ok, Err, codes}
+use Rattle.std.specs.Prelude.{◌≡◌, ◌⊎◌, ℕ, ◌+◌, ◌*◌, Bool, false, not, ◌&&◌, ◌||◌, ◌==◌, nat_le, nat_lt, nat_eq, if◌then◌else◌, ℤ, pos, negsuc, neg_ℤ, int_le, List, [], ◌∷◌, length, Option, Some, None, Result, Ok, Err, codes}
 use Rattle.std.specs.Cmp.Lexicographic.{pointwise}
 use Rattle.csv.specs.Reading.{default_config, records, strip_bom}
 use Rattle.cds_trace.specs.Number.{number_of, without_blanks}
@@ -20,6 +20,11 @@ record_of i = i + 2
 -- a field that is this word, but for blanks at its ends
 abbrev pub is_word : List ℕ → List ℕ → Bool
 is_word word field = pointwise nat_eq (without_blanks field) word
+
+-- the same of a field that may not be there
+abbrev pub is_word_at : List ℕ → Option (List ℕ) → Bool
+is_word_at word None = false
+is_word_at word (Some field) = is_word word field
 
 -- the two fields `time_us` and `signal`
 abbrev pub is_header : Fields → Bool

@@ -6,6 +6,7 @@
 
 mod error;
 mod number;
+mod read;
 mod trace;
 
 pub use error::TraceError;

@@ -140,13 +140,16 @@ fn first_outside(samples: &[i32]) -> Option<usize>
     ensures value { result ≡ position (λ sample. not (is_sample sample)) samples.now }
     ensures place { IfSome result (λ i. i < length samples.now) }
 {
-    samples.iter().position(|sample| !is_sample(*sample))
+    samples
+        .iter()
+        .position(|sample| !is_sample(i64::from(*sample)))
 }
 
-pub(crate) fn is_sample(sample: i32) -> bool
+pub(crate) fn is_sample(sample: i64) -> bool
     ensures { result ≡ is_sample sample }
 {
-    -GREATEST_SAMPLE <= sample && sample <= GREATEST_SAMPLE
+    let greatest = i64::from(GREATEST_SAMPLE);
+    -greatest <= sample && sample <= greatest
 }
 
 // For each k up to the number of samples, the sum of the first k.

@@ -1,7 +1,6 @@
-use Rattle.std.proofs.Common.{◌≡◌, ◌+◌, ◌+ℤ◌, pos, get_or, take, true, arith, rules, refl, to_z, w64}
+use Rattle.std.proofs.Common.{◌≡◌, ◌+◌, ◌+ℤ◌, pos, get_or, true, arith, rules, refl, to_z, w64}
 use Rattle.std.specs.Result.{is_ok}
 use Rattle.std.proofs.lemmas.Int.{ints}
-use Rattle.cds_trace.specs.Signal.{total}
 use Rattle.cds_trace.proofs.SignalLaws.{AreSums-more, total-fits, total-more}
 use Rattle.cds_trace.proofs.trace.running_sums.Goals as goal
 

@@ -1,4 +1,4 @@
-use Rattle.std.proofs.Common.{◌≡◌, ◌*◌, ◌≤ℤ◌, neg_ℤ, pos, take}
+use Rattle.std.proofs.Common.{◌≡◌, take}
 use Rattle.cds_trace.specs.Signal.{total}
 use Rattle.cds_trace.specs.Sums.{AreSums}
 use Rattle.cds_trace.proofs.trace.running_sums.Given as goal
