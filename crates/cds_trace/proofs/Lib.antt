@@ -1,1 +1,5 @@
 pub mod SignalLaws
+pub mod NumberLaws
+pub mod LimitLaws
+pub mod RecordLaws
+pub mod TextLaws

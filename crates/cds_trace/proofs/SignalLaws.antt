@@ -1,12 +1,13 @@
 -- Laws of sums of samples.
-use Rattle.std.proofs.Common.{◌≡◌, ◌∙◌, ℕ, ◌+◌, ◌-◌, ◌*◌, ◌<◌, ◌≤◌, ℤ, pos, neg_ℤ, ◌+ℤ◌, ◌-ℤ◌, ◌≤ℤ◌, List, [], ◌∷◌, ◌++◌, All, fold, get_or, length, take, drop, arith, ap, subst, sym, refl}
-use Rattle.std.specs.Prelude.{slice_range}
+use Rattle.std.proofs.Common.{◌≡◌, ◌∙◌, ℕ, ◌+◌, ◌-◌, ◌*◌, ◌<◌, ◌≤◌, ℤ, pos, neg_ℤ, ◌+ℤ◌, ◌-ℤ◌, ◌≤ℤ◌, List, [], ◌∷◌, ◌++◌, All, fold, get_or, length, take, drop, arith, ap, subst, sym, inl, inr, w64}
+use Rattle.std.specs.Prelude.{◌⊎◌, FitsSigned, slice_range}
 use Rattle.std.proofs.lemmas.Int.{ints}
-use Rattle.std.proofs.lemmas.List.{get_or_read, take-append-drop, take-take, drop-take, length-take, length-drop}
+use Rattle.std.proofs.lemmas.List.{get_or_read, get_or_append_left, get_or_push, length_push, take-append-drop, take-take, drop-take, length-take, length-drop}
 use Rattle.std.proofs.lemmas.List.Elements.{All-head, All-tail, All-take, All-drop}
-use Rattle.std.proofs.lemmas.List.Sums.{fold-append}
+use Rattle.std.proofs.lemmas.List.Sums.{fold-append, fold_more}
 use Rattle.cds_trace.specs.Signal.{Signal, IsSample, IsTrace, sum_between, total}
-use Rattle.cds_trace.specs.Held.{AreSums, IsHeld, signal_held}
+use Rattle.cds_trace.specs.Sums.{AreSums}
+use Rattle.cds_trace.specs.Held.{IsHeld, signal_held}
 use Rattle.cds_trace.specs.declared.trace.Trace.TheInside.{Inside}
 use Rattle.cds_trace.specs.declared.trace.TheConstants.{MOST_SAMPLES}
 
@@ -68,3 +69,35 @@ pub held-read : (held : Inside) (signal : Signal) (i j : ℕ) (a b : ℤ) → si
 held-read held signal i j a b seen h order end ea eb =
     let whole : j ≤ length held.samples.items = rw (← seen) at end in
     subst (λ (s : Signal). IsSumBetween s i j (a -ℤ b)) seen (sums-read held.samples.items held.sums.items held.period i j a b h.sums h.trace order whole ea eb)
+
+-- one more sample of a running sum
+pub total-more : (xs : List ℤ) (i : ℕ) (sum sample d : ℤ) → i < length xs → sum ≡ total (take i xs) → sample ≡ get_or xs i d → sum +ℤ sample ≡ total (take (i + 1) xs)
+total-more xs i sum sample d h es ex = rw (es, ex) (sym (fold_more ◌+ℤ◌ (pos 0) xs i d h))
+
+-- one more running sum
+pub AreSums-more : (xs sums : List ℤ) (i : ℕ) (sum : ℤ) → i < length xs → sum ≡ total (take (i + 1) xs) → AreSums (take i xs) sums
+    → AreSums (take (i + 1) xs) (sums ++ (sum ∷ []))
+AreSums-more xs sums i sum h e are =
+    let now = length-take (i + 1) xs in
+    let before = length-take i xs in
+    record {
+      whole = omega (arith, length_push sums sum, are.whole);
+      each = λ k below.
+          let known : take k (take (i + 1) xs) ≡ take k xs = take-take k (i + 1) xs (omega arith) in
+          elim (le-cases k i (omega arith)) [
+            | inl less ↦
+                let old : take k (take i xs) ≡ take k xs = take-take k i xs less in
+                rw (get_or_append_left sums (sum ∷ []) (pos 0) k (omega (arith, are.whole)), known) (rw old at (are.each k (omega arith)))
+            | inr last ↦ rw (known, last) (get_or_push sums sum (pos 0) (i + 1) (omega (arith, are.whole)) ∙ e)
+          ];
+    }
+  where
+    le-cases : (k n : ℕ) → k ≤ n + 1 → (k ≤ n) ⊎ (k ≡ n + 1)
+    le-cases k n h = grind arith
+
+-- a sum of the first samples fits
+pub total-fits : (xs : List ℤ) (i : ℕ) (sum : ℤ) → length xs ≤ MOST_SAMPLES → All IsSample xs → sum ≡ total (take i xs) → FitsSigned w64 sum
+total-fits xs i sum few range e =
+    let size = length-take i xs in
+    let bounds = total-bounds (take i xs) (All-take IsSample i xs range) in
+    omega (arith, ints, e, bounds.0, bounds.1)

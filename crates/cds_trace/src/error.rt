@@ -1,3 +1,4 @@
+use std::alloc::{AllocError, AllocFailed};
 use thiserror::Error;
 
 /// Why bytes or samples are no trace. The first eight are refusals with the numbers 1 to 8, in this order; where
@@ -33,4 +34,58 @@ pub enum TraceError {
     /// Memory is wanting. This is no refusal and has no number.
     #[error("out of memory")]
     NoMemory,
+}
+
+impl TraceError {
+    ghost use Rattle.std.specs.Prelude.{◌≡◌};
+    ghost use Rattle.cds_trace.specs.Refusal.{number_of_refusal, record_of_refusal};
+
+    /// The number of the refusal, 1 to 8; None for want of memory.
+    pub fn number(&self) -> Option<u8>
+        ensures { result ≡ number_of_refusal self.now }
+    {
+        match self {
+            TraceError::BadCsv(_) => Some(1),
+            TraceError::BadHeader => Some(2),
+            TraceError::NotNumber(_) => Some(3),
+            TraceError::Uneven(_) => Some(4),
+            TraceError::TooShort => Some(5),
+            TraceError::TooLong => Some(6),
+            TraceError::OutOfRange(_) => Some(7),
+            TraceError::BadPeriod => Some(8),
+            TraceError::NoMemory => None,
+        }
+    }
+
+    /// The number of the record at fault, the header being record 1; None where the refusal has no record.
+    pub fn record(&self) -> Option<u32>
+        ensures { result ≡ record_of_refusal self.now }
+    {
+        match self {
+            TraceError::BadCsv(record)
+            | TraceError::NotNumber(record)
+            | TraceError::Uneven(record)
+            | TraceError::OutOfRange(record) => Some(*record),
+            _ => None,
+        }
+    }
+}
+
+ghost use Rattle.std.specs.Prelude.{◌≡◌};
+ghost use Rattle.cds_trace.specs.declared.error.TraceError.TheVariants.{NoMemory};
+
+impl From<AllocError> for TraceError {
+    ghost from_gives = { λ _ e. e ≡ NoMemory };
+
+    fn from(_error: AllocError) -> TraceError {
+        TraceError::NoMemory
+    }
+}
+
+impl<T: Drop> From<AllocFailed<T>> for TraceError {
+    ghost from_gives = { λ _ e. e ≡ NoMemory };
+
+    fn from(_failed: AllocFailed<T>) -> TraceError {
+        TraceError::NoMemory
+    }
 }

@@ -5,7 +5,10 @@
 #![tactic(auto)]
 
 mod error;
+mod number;
+mod read;
 mod trace;
 
 pub use error::TraceError;
+pub use number::MOST_DIGITS;
 pub use trace::{FEWEST_SAMPLES, GREATEST_SAMPLE, LAST_TIME_US, MOST_SAMPLES, Trace};

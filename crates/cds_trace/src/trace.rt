@@ -1,7 +1,12 @@
-ghost use Rattle.std.specs.Prelude.{◌≡◌, ◌+◌, ◌-◌, ◌*◌, ◌<◌, ◌≤◌, pos, neg_ℤ, ◌≤ℤ◌, length};
+ghost use Rattle.std.specs.Prelude.{◌≡◌, ◌+◌, ◌-◌, ◌*◌, ◌<◌, ◌≤◌, pos, neg_ℤ, ◌≤ℤ◌, All, IfOk, IfSome, length, not, position};
 ghost use Rattle.cds_trace.specs.Signal.{sample_at, sum_between, IsSample, IsTrace};
+ghost use Rattle.cds_trace.specs.TraceText.{is_sample, Reads};
+ghost use Rattle.cds_trace.specs.GivenSamples.{given_trace};
+ghost use Rattle.cds_trace.specs.Sums.{AreSums};
 
+use crate::error::TraceError;
 use cds_base::Steps;
+use std::alloc::{AllocError, Global};
 use std::marker::Model;
 use std::sync::ledger::Ledger;
 
@@ -40,6 +45,46 @@ impl Model for Trace {
 }
 
 impl Trace {
+    /// The trace of these samples, one in each `period` microseconds. It is refused with TooLong where there are
+    /// more than 100,000 samples, else with TooShort where there are fewer than two, else with BadPeriod where the
+    /// period is 0 or the time of the last sample is above 14,400,000,000 microseconds, else with OutOfRange where
+    /// a sample is below -100,000,000 or above 100,000,000; OutOfRange carries the index of the first such sample
+    /// plus 2, which would be its record in a text. The order is this project's own.
+    pub fn from_samples(alloc: Global, period: u64, samples: &[i32]) -> Result<Trace, TraceError>
+        ensures { Reads result (given_trace period samples.now) }
+    {
+        if samples.len() > MOST_SAMPLES as usize {
+            return Err(TraceError::TooLong);
+        }
+        if samples.len() < FEWEST_SAMPLES as usize {
+            return Err(TraceError::TooShort);
+        }
+        if period == 0 || last_time(samples.len(), period) > u128::from(LAST_TIME_US) {
+            return Err(TraceError::BadPeriod);
+        }
+        if let Some(index) = first_outside(samples) {
+            return Err(TraceError::OutOfRange(index as u32 + 2));
+        }
+        Ok(Trace::of_samples(alloc, period, Vec::from_slice(alloc, samples)?)?)
+    }
+
+    // The trace of samples that keep its limits.
+    pub(crate) fn of_samples(
+        alloc: Global,
+        period: u64,
+        samples: Vec<i32>,
+    ) -> Result<Trace, AllocError>
+        requires { IsTrace (record { period = period; samples = samples.items }) }
+        ensures { IfOk result (λ trace. trace ≡ record { period = period; samples = samples.items }) }
+    {
+        let sums = running_sums(alloc, &samples)?;
+        Ok(Trace {
+            period,
+            samples,
+            sums,
+        })
+    }
+
     /// How many samples there are, 2 to 100,000.
     pub fn len(&self) -> u32
         ensures value { result ≡ length self.now.samples }
@@ -80,4 +125,45 @@ impl Trace {
         steps.tick();
         self.sums[j as usize] - self.sums[i as usize]
     }
+}
+
+// The time of the last of so many samples.
+fn last_time(count: usize, period: u64) -> u128
+    requires { 1 ≤ count }
+    ensures { result ≡ (count - 1) * period }
+{
+    (count as u128 - 1) * u128::from(period)
+}
+
+// The index of the first sample that is out of range.
+fn first_outside(samples: &[i32]) -> Option<usize>
+    ensures value { result ≡ position (λ sample. not (is_sample sample)) samples.now }
+    ensures place { IfSome result (λ i. i < length samples.now) }
+{
+    samples
+        .iter()
+        .position(|sample| !is_sample(i64::from(*sample)))
+}
+
+pub(crate) fn is_sample(sample: i64) -> bool
+    ensures { result ≡ is_sample sample }
+{
+    let greatest = i64::from(GREATEST_SAMPLE);
+    -greatest <= sample && sample <= greatest
+}
+
+// For each k up to the number of samples, the sum of the first k.
+fn running_sums(alloc: Global, samples: &[i32]) -> Result<Vec<i64>, AllocError>
+    requires few { length samples.now ≤ MOST_SAMPLES }
+    requires range { All IsSample samples.now }
+    ensures { IfOk result (λ sums. AreSums samples.now sums.items) }
+{
+    let mut sums = Vec::with_capacity(alloc, samples.len() + 1)?;
+    let mut sum: i64 = 0;
+    sums.push(sum)?;
+    for sample in samples {
+        sum += i64::from(*sample);
+        sums.push(sum)?;
+    }
+    Ok(sums)
 }
