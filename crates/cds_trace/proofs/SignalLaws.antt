@@ -9,7 +9,7 @@ use Rattle.cds_trace.specs.Signal.{Signal, IsSample, IsTrace, sum_between, total
 use Rattle.cds_trace.specs.Sums.{AreSums}
 use Rattle.cds_trace.specs.Held.{IsHeld, signal_held}
 use Rattle.cds_trace.specs.declared.trace.Trace.TheInside.{Inside}
-use Rattle.cds_trace.specs.declared.trace.TheConstants.{MOST_SAMPLES}
+use Rattle.cds_trace.specs.Limits.{most_samples}
 
 -- a sum that begins at a number is that number and the sum
 pub fold-from : (a : ℤ) (xs : List ℤ) → fold ◌+ℤ◌ a xs ≡ a +ℤ total xs
@@ -45,7 +45,7 @@ pub record IsSumBetween (signal : Signal) (i j : ℕ) (sum : ℤ) : Type 0 where
   pub value : sum ≡ sum_between signal i j
   pub least : neg_ℤ (pos ((j - i) * 100000000)) ≤ℤ sum
   pub greatest : sum ≤ℤ pos ((j - i) * 100000000)
-  pub few : j - i ≤ MOST_SAMPLES
+  pub few : j - i ≤ most_samples
 
 -- the running sum at j less the one at i is the sum of the samples from i to j - 1
 pub sums-read : (xs sums : List ℤ) (period i j : ℕ) (a b : ℤ) → AreSums xs sums → IsTrace (record { period = period; samples = xs })
@@ -96,7 +96,7 @@ AreSums-more xs sums i sum h e are =
     le-cases k n h = grind arith
 
 -- a sum of the first samples fits
-pub total-fits : (xs : List ℤ) (i : ℕ) (sum : ℤ) → length xs ≤ MOST_SAMPLES → All IsSample xs → sum ≡ total (take i xs) → FitsSigned w64 sum
+pub total-fits : (xs : List ℤ) (i : ℕ) (sum : ℤ) → length xs ≤ most_samples → All IsSample xs → sum ≡ total (take i xs) → FitsSigned w64 sum
 total-fits xs i sum few range e =
     let size = length-take i xs in
     let bounds = total-bounds (take i xs) (All-take IsSample i xs range) in

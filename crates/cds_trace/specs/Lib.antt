@@ -1,3 +1,4 @@
+pub mod Limits
 pub mod Signal
 pub mod Sums
 pub mod Held

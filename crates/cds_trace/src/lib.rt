@@ -12,3 +12,6 @@ mod trace;
 pub use error::TraceError;
 pub use number::MOST_DIGITS;
 pub use trace::{FEWEST_SAMPLES, GREATEST_SAMPLE, LAST_TIME_US, MOST_SAMPLES, Trace};
+
+#[cfg(test)]
+mod tests;
