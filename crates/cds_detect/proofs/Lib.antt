@@ -6,4 +6,6 @@ pub mod PlaceLaws
 pub mod ClimbLaws
 pub mod WindowLaws
 pub mod ApexLaws
+pub mod TurnLaws
+pub mod StandLaws
 pub mod Rows

@@ -46,3 +46,23 @@ raw_peaks_of signal settings = peaks_of signal settings.bunch (spans (classes si
 -- the answer for these raw peaks: their list, or their number where there are more than a row may have
 abbrev pub answer_of : List RawPeak → Raw
 answer_of peaks = if nat_le (length peaks) MOST_RAW_PEAKS then variant.List peaks else variant.TooMany (length peaks)
+
+-- the peaks of an answer; one with more than a row may have has none
+abbrev pub peaks_in : Raw → List RawPeak
+peaks_in (variant.List peaks) = peaks
+peaks_in (variant.TooMany number) = []
+
+-- a raw peak that begins at this sample or behind it
+pub record IsRawPeak (signal : Signal) (at : ℕ) (peak : RawPeak) : Type 0 where
+  pub follows : at ≤ peak.start
+  -- its apex lies strictly inside, and is the first greatest sample of its range
+  pub rises : peak.start < peak.apex
+  pub falls : peak.apex < peak.end
+  pub apex : peak.apex ≡ first_greatest signal peak.start peak.end
+  -- it ends within the trace
+  pub ends : peak.end < length signal.samples
+
+-- raw peaks one after the other from this sample on; the end of one may be the start of the next
+abbrev pub StandFrom : Signal → ℕ → List RawPeak → Type 0
+StandFrom signal at [] = Unit {0}
+StandFrom signal at (peak ∷ peaks) = IsRawPeak signal at peak × StandFrom signal peak.end peaks

@@ -1,5 +1,5 @@
 -- Where peaks lie in a list of classes. This project's own rule.
-use Rattle.std.specs.Prelude.{ℕ, zero, suc, ◌+◌, ◌&&◌, ◌||◌, Bool, true, false, not, List, [], ◌∷◌, ◌++◌, length, slice_index_or, nat_lt, if◌then◌else◌}
+use Rattle.std.specs.Prelude.{ℕ, zero, suc, ◌+◌, ◌-◌, ◌&&◌, ◌||◌, Bool, true, false, not, List, [], ◌∷◌, ◌++◌, length, slice_index_or, nat_lt, if◌then◌else◌}
 use Rattle.cds_detect.specs.Least.{least}
 use Rattle.cds_detect.specs.declared.class.Class.{Class}
 use Rattle.cds_detect.specs.declared.class.Class.TheVariants.{Inhibited, Up, Down, Flat}
@@ -86,6 +86,10 @@ spans_from zero classes plateau k = []
 spans_from (suc turns) classes plateau k =
     let s = next_up classes k in
     span_from classes plateau s ++ spans_from turns classes plateau (behind classes plateau s)
+
+-- the peaks from index k on
+unfoldable pub later_spans : List Class → ℕ → ℕ → List Span
+later_spans classes plateau k = spans_from (length classes - k) classes plateau k
 
 -- all peaks of a list of classes
 abbrev pub spans : List Class → ℕ → List Span
