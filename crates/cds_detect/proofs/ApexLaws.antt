@@ -25,8 +25,9 @@ all-range test a (suc n) passes =
 all-range_fails : (test : ℕ → Bool) (a n k : ℕ) → a ≤ k → k < a + n → test k ≡ false → list_all test (range_with_len a n) ≡ false
 all-range_fails test a zero k l m fails = absurd (omega arith)
 all-range_fails test a (suc n) k l m fails = elim (cases_eq a k) [
-    inl e ↦ and_left (test a) (list_all test (range_with_len (a + 1) n)) (ap test e ∙ fails)
-  | inr ne ↦ and_right (test a) (list_all test (range_with_len (a + 1) n)) (all-range_fails test (a + 1) n k (omega arith) (omega arith) fails) ]
+  | inl e ↦ and_left (test a) (list_all test (range_with_len (a + 1) n)) (ap test e ∙ fails)
+  | inr ne ↦ and_right (test a) (list_all test (range_with_len (a + 1) n)) (all-range_fails test (a + 1) n k (omega arith) (omega arith) fails)
+]
 
 at_most : (x y : ℤ) → x ≤ℤ y → int_le x y ≡ true
 at_most x y l = grind (arith, ints)

@@ -32,8 +32,9 @@ goes_on Inhibited f p = refl
 goes_on Up f p = (refl, refl)
 goes_on Down f p = refl
 goes_on Flat f p = elim (cases_lt f p) [
-    inl l ↦ rw (lt-ltb f p l) (lt-leb p f l, refl)
-  | inr l ↦ rw (le-ltb f p l) (le-leb p f l) ]
+  | inl l ↦ rw (lt-ltb f p l) (lt-leb p f l, refl)
+  | inr l ↦ rw (le-ltb f p l) (le-leb p f l)
+]
 
 -- a climb from s that has come to k, with this many flat classes in a row before it
 pub climb-at : (cs : List Class) (s p k f : ℕ) → s < k → f ≡ flat_run cs s k → MatchOption (flats_after (class_at cs k) f p) (ends_climb cs p s k ≡ true) (λ more. (ends_climb cs p s k ≡ false) × (more ≡ flat_run cs s (k + 1)))

@@ -32,8 +32,9 @@ found-between test from zero end e = (omega arith, omega arith)
 found-between test from (suc len) end e =
     let later = found-between test (from + 1) len end (omega arith) in
     elim (test from) as (λ b. let found : ℕ = unwrap_or (cond b (Some from) (find test (range_with_len (from + 1) len))) end in (from ≤ found) × (found ≤ end)) [
-      true ↦ (omega arith, omega arith)
-    | false ↦ (omega (arith, later.0), later.1) ]
+      | true ↦ (omega arith, omega arith)
+      | false ↦ (omega (arith, later.0), later.1)
+    ]
 
 pub least-low : (test : ℕ → Bool) (k n : ℕ) → k ≤ n → k ≤ least test k n
 unfolding least

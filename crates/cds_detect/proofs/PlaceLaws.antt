@@ -31,16 +31,18 @@ end_sample-last signal bunch e same = rw (eq-eqb e (class_count (length signal.s
 -- it ends behind each sample at which an earlier bunch begins
 pub end_sample-behind : (signal : Signal) (bunch s e : ℕ) → 1 ≤ bunch → s < e → e ≤ class_count (length signal.samples) bunch → s * bunch + 1 ≤ end_sample signal bunch e
 end_sample-behind signal bunch s e some l m = elim (cases_eq e (class_count (length signal.samples) bunch)) [
-    inl same ↦ rw (end_sample-last signal bunch e same) (class-within s bunch (length signal.samples) some (omega arith))
+  | inl same ↦ rw (end_sample-last signal bunch e same) (class-within s bunch (length signal.samples) some (omega arith))
   | inr other ↦ (
       let before : e < class_count (length signal.samples) bunch = omega arith in
       let further : (s + 1) * bunch ≤ e * bunch = mul-le-mul_right bunch (omega arith) in
-      rw (end_sample-class signal bunch e before) (omega arith)) ]
+      rw (end_sample-class signal bunch e before) (omega arith))
+]
 
 -- it ends within the trace
 pub end_sample-within : (signal : Signal) (bunch e : ℕ) → 1 ≤ bunch → 2 ≤ length signal.samples → e ≤ class_count (length signal.samples) bunch → end_sample signal bunch e + 1 ≤ length signal.samples
 end_sample-within signal bunch e some enough m = elim (cases_eq e (class_count (length signal.samples) bunch)) [
-    inl same ↦ rw (end_sample-last signal bunch e same) (omega arith)
+  | inl same ↦ rw (end_sample-last signal bunch e same) (omega arith)
   | inr other ↦ (
       let before : e < class_count (length signal.samples) bunch = omega arith in
-      rw (end_sample-class signal bunch e before) (omega (arith, class-within e bunch (length signal.samples) some before))) ]
+      rw (end_sample-class signal bunch e before) (omega (arith, class-within e bunch (length signal.samples) some before)))
+]

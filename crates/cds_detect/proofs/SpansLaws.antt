@@ -32,8 +32,9 @@ climb-high cs p s l = least-high (ends_climb cs p s) (s + 1) (length cs) (omega 
 -- a class that is down stands before the end
 pub down-before : (cs : List Class) (k : ℕ) → is_down (class_at cs k) ≡ true → k < length cs
 down-before cs k e = elim (cases_lt k (length cs)) [
-    inl l ↦ l
-  | inr l ↦ (let f : is_down (class_at cs k) ≡ false = rw (class_at-past cs k l) refl in cc) ]
+  | inl l ↦ l
+  | inr l ↦ (let f : is_down (class_at cs k) ≡ false = rw (class_at-past cs k l) refl in cc)
+]
 
 -- a fall ends behind its start, and not behind the last class
 pub fall-low : (cs : List Class) (k : ℕ) → is_down (class_at cs k) ≡ true → k < fall cs k
@@ -63,11 +64,13 @@ behind-next_up : (t : ℕ) (cs : List Class) (p k : ℕ) → length cs ≤ k + s
 behind-next_up t cs p k l =
     let s = next_up cs k in
     elim (cases_lt s (length cs)) [
-      inl m ↦ (
-        elim (cases_lt (length cs) k) [
-          inl past ↦ (let low : s < behind cs p s = behind-low cs p s m in let e : s ≡ length cs = least-end _ _ _ (omega arith) in omega arith)
-        | inr within ↦ (let low : s < behind cs p s = behind-low cs p s m in let from : k ≤ s = least-low _ _ _ within in omega arith) ])
-    | inr m ↦ (let e : behind cs p s ≡ length cs = behind-past cs p s m in omega arith) ]
+      | inl m ↦ (
+          elim (cases_lt (length cs) k) [
+            | inl past ↦ (let low : s < behind cs p s = behind-low cs p s m in let e : s ≡ length cs = least-end _ _ _ (omega arith) in omega arith)
+            | inr within ↦ (let low : s < behind cs p s = behind-low cs p s m in let from : k ≤ s = least-low _ _ _ within in omega arith)
+          ])
+      | inr m ↦ (let e : behind cs p s ≡ length cs = behind-past cs p s m in omega arith)
+    ]
 
 -- further turns find nothing more
 spans_from-enough : (t u : ℕ) (cs : List Class) (p k : ℕ) → length cs ≤ k + t → length cs ≤ k + u → spans_from t cs p k ≡ spans_from u cs p k

@@ -41,22 +41,24 @@ stand-spans_from (suc turns) signal settings at k some enough l m =
     let s = next_up cs k in
     let low : k ≤ s = least-low _ _ _ (omega arith) in
     elim (cases_lt s (length cs)) [
-      inl here ↦ (
-        let top = climb cs p s in
-        let rises : s < top = climb-low cs p s here in
-        let high : top ≤ length cs = climb-high cs p s here in
-        elim (cases_Bool (is_down (class_at cs top))) [
-          inl down ↦ (
-            let falls : top < fall cs top = fall-low cs top down in
-            let within : fall cs top ≤ length cs = fall-high cs top down in
-            let start : end_sample signal settings.bunch k ≤ s * settings.bunch = end_sample-start signal settings.bunch k s low (omega arith) in
-            let far : s * settings.bunch + 1 ≤ end_sample signal settings.bunch (fall cs top) = end_sample-behind signal settings.bunch s (fall cs top) some (omega arith) (omega arith) in
-            let ends : end_sample signal settings.bunch (fall cs top) + 1 ≤ length signal.samples = end_sample-within signal settings.bunch (fall cs top) some enough (omega arith) in
-            rw down (stand-cons signal settings.bunch at (record { start = s; end = fall cs top }) (spans_from turns cs p (fall cs top)) (omega arith) (omega arith) (omega arith) (stand-spans_from turns signal settings (end_sample signal settings.bunch (fall cs top)) (fall cs top) some enough (omega arith) (omega arith))))
-        | inr flat ↦ (
-            let further : end_sample signal settings.bunch k ≤ end_sample signal settings.bunch top = end_sample-rises signal settings.bunch k top some (omega arith) (omega arith) (omega arith) in
-            rw flat (stand-spans_from turns signal settings at top some enough (omega arith) (omega arith))) ])
-    | inr past ↦ rw (span_from-past cs p s past, behind-past cs p s past, spans_from-past turns cs p (length cs) (omega arith)) tt ]
+      | inl here ↦ (
+          let top = climb cs p s in
+          let rises : s < top = climb-low cs p s here in
+          let high : top ≤ length cs = climb-high cs p s here in
+          elim (cases_Bool (is_down (class_at cs top))) [
+            | inl down ↦ (
+                let falls : top < fall cs top = fall-low cs top down in
+                let within : fall cs top ≤ length cs = fall-high cs top down in
+                let start : end_sample signal settings.bunch k ≤ s * settings.bunch = end_sample-start signal settings.bunch k s low (omega arith) in
+                let far : s * settings.bunch + 1 ≤ end_sample signal settings.bunch (fall cs top) = end_sample-behind signal settings.bunch s (fall cs top) some (omega arith) (omega arith) in
+                let ends : end_sample signal settings.bunch (fall cs top) + 1 ≤ length signal.samples = end_sample-within signal settings.bunch (fall cs top) some enough (omega arith) in
+                rw down (stand-cons signal settings.bunch at (record { start = s; end = fall cs top }) (spans_from turns cs p (fall cs top)) (omega arith) (omega arith) (omega arith) (stand-spans_from turns signal settings (end_sample signal settings.bunch (fall cs top)) (fall cs top) some enough (omega arith) (omega arith))))
+            | inr flat ↦ (
+                let further : end_sample signal settings.bunch k ≤ end_sample signal settings.bunch top = end_sample-rises signal settings.bunch k top some (omega arith) (omega arith) (omega arith) in
+                rw flat (stand-spans_from turns signal settings at top some enough (omega arith) (omega arith)))
+          ])
+      | inr past ↦ rw (span_from-past cs p s past, behind-past cs p s past, spans_from-past turns cs p (length cs) (omega arith)) tt
+    ]
 
 pub stand-raw_peaks_of : (signal : Signal) (settings : Settings) → 1 ≤ settings.bunch → 2 ≤ length signal.samples → StandFrom signal 0 (raw_peaks_of signal settings)
 stand-raw_peaks_of signal settings some enough =

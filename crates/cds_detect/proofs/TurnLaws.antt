@@ -64,8 +64,9 @@ turn-end signal settings top end class c down e =
 -- the peak of the first span stands before those of the rest
 peaks_of-cons : (signal : Signal) (bunch : ℕ) (span : Span) (spans : List Span) → peaks_of signal bunch (span ∷ spans) ≡ filter is_peak (peak_of signal bunch span ∷ []) ++ peaks_of signal bunch spans
 peaks_of-cons signal bunch span spans = elim (cases_Bool (is_peak (peak_of signal bunch span))) [
-    inl is ↦ rw is refl
-  | inr isnt ↦ rw isnt refl ]
+  | inl is ↦ rw is refl
+  | inr isnt ↦ rw isnt refl
+]
 
 -- a climb that ends in a fall adds its peak, if it is one
 pub turn-peak : (signal : Signal) (settings : Settings) (k s top end from to : ℕ) (class : Class) (old new : List RawPeak) → k < class_count (length signal.samples) settings.bunch → s ≡ next_up (classes signal settings) k → top ≡ climb (classes signal settings) settings.plateau s → class ≡ class_at (classes signal settings) top → is_down class ≡ true → end ≡ fall (classes signal settings) top → from ≡ s * settings.bunch → to ≡ end_sample signal settings.bunch end → new ≡ old ++ filter is_peak (peak_between signal from to ∷ []) → new ++ peaks_on signal settings end ≡ old ++ peaks_on signal settings k
@@ -80,8 +81,9 @@ turn-peak signal settings k s top end from to class old new l e f c down h a b k
 -- places of the search in samples: they rise
 pub end_sample-rises : (signal : Signal) (bunch k e : ℕ) → 1 ≤ bunch → k < class_count (length signal.samples) bunch → k ≤ e → e ≤ class_count (length signal.samples) bunch → end_sample signal bunch k ≤ end_sample signal bunch e
 end_sample-rises signal bunch k e some l m n = elim (cases_lt k e) [
-    inl before ↦ rw (end_sample-class signal bunch k l) (omega (arith, end_sample-behind signal bunch k e some before n))
-  | inr same ↦ (let e : k ≡ e = omega arith in rw e (omega arith)) ]
+  | inl before ↦ rw (end_sample-class signal bunch k l) (omega (arith, end_sample-behind signal bunch k e some before n))
+  | inr same ↦ (let e : k ≡ e = omega arith in rw e (omega arith))
+]
 
 pub end_sample-start : (signal : Signal) (bunch k s : ℕ) → k ≤ s → s < class_count (length signal.samples) bunch → end_sample signal bunch k ≤ s * bunch
 end_sample-start signal bunch k s l m = rw (end_sample-class signal bunch k (omega arith)) (mul-le-mul_right bunch l)

@@ -16,7 +16,7 @@ stands-here signal settings w l class middle far middle_range far_range = record
   middle = λ _. middle;
   far = λ _. far;
   middle_range = middle_range;
-  far_range = far_range
+  far_range = far_range;
 }
 
 -- behind the last class
@@ -27,5 +27,5 @@ stands-past signal settings w e class middle_range far_range = record {
   middle = λ l. absurd (omega arith);
   far = λ l. absurd (omega arith);
   middle_range = middle_range;
-  far_range = far_range
+  far_range = far_range;
 }

@@ -10,5 +10,5 @@ settings_of method manual = record {
   bunch = method.bunch;
   own = record { at = 0; on = method.slope_on; off = method.slope_off };
   plateau = method.plateau;
-  events = method.events ++ manual
+  events = method.events ++ manual;
 }

@@ -16,12 +16,7 @@ pub(crate) fn class_count(samples: u32, bunch: u32) -> u32
 }
 
 /// The sum of the samples of bunch `j`. Two steps.
-pub(crate) fn bunch_sum<L: Ledger>(
-    trace: &Trace,
-    bunch: u32,
-    j: u32,
-    steps: &mut Steps<L>,
-) -> i64
+pub(crate) fn bunch_sum<L: Ledger>(trace: &Trace, bunch: u32, j: u32, steps: &mut Steps<L>) -> i64
     requires least { 1 ≤ bunch }
     requires most { bunch ≤ 64 }
     requires trace { IsTrace trace.now }

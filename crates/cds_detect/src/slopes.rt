@@ -42,7 +42,11 @@ pub(crate) fn slopes_at(method: &Method, manual: &[Event], time: u64) -> Slopes
         on: method.slope_on,
         off: method.slope_off,
     };
-    later_of(in_force(method.events.as_slice(), time), in_force(manual, time)).unwrap_or(own)
+    later_of(
+        in_force(method.events.as_slice(), time),
+        in_force(manual, time),
+    )
+    .unwrap_or(own)
 }
 
 /// The thresholds of the slope event with the greatest time not above this one, in microseconds; of equal times

@@ -9,5 +9,5 @@ invariant-loop-i g l = record {
   high : l.apex < l.i;
   before : (k : ℕ) → l.from ≤ k → k < l.apex → sample_at l.trace k <ℤ l.height;
   most : (k : ℕ) → l.from ≤ k → k < l.i → sample_at l.trace k ≤ℤ l.height;
-  counted : l.steps + l.from ≡ l.fn.steps + l.i
+  counted : l.steps + l.from ≡ l.fn.steps + l.i;
 }

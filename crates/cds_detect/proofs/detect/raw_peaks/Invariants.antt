@@ -10,7 +10,7 @@ abbrev pub invariant-loop-window : goal.invariant-loop-window
 invariant-loop-window g l = record {
   stands : Stands l.trace (settings_of l.method l.manual) l.window;
   found : l.found.items ++ peaks_of l.trace l.method.bunch (later_spans (classes l.trace (settings_of l.method l.manual)) l.method.plateau l.window.at) ≡ raw_peaks_of l.trace (settings_of l.method l.manual);
-  counted : l.steps ≤ ((l.fn.steps + 6) + 2 * l.window.at) + 2 * end_sample l.trace l.method.bunch l.window.at
+  counted : l.steps ≤ ((l.fn.steps + 6) + 2 * l.window.at) + 2 * end_sample l.trace l.method.bunch l.window.at;
 }
 
 abbrev pub decreases-loop-window : goal.decreases-loop-window

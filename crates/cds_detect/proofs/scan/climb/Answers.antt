@@ -15,7 +15,7 @@ loop-window-init g c =
       after = omega arith;
       flats = rw (c.next-window.ensures.next) (sym (flat_run-start cs c.args.start.at));
       goes_on = rw (c.next-window.ensures.next) refl;
-      counted = omega arith
+      counted = omega arith;
     }
 
 pub loop-window-preserved : goal.loop-window-preserved
@@ -31,7 +31,7 @@ loop-window-preserved g c =
       after = omega arith;
       flats = rw (c.next-window-in-loop-window.ensures.next) on.1;
       goes_on = rw (c.next-window-in-loop-window.ensures.next) (sym on.0 ∙ kept.goes_on);
-      counted = omega arith
+      counted = omega arith;
     }
 
 pub returns-in_default-clause-place : goal.returns-in_default-clause-place
