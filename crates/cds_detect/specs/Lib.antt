@@ -1,0 +1,9 @@
+pub mod Least
+pub mod Slopes
+pub mod Bunches
+pub mod Classes
+pub mod Settings
+pub mod Spans
+pub mod Climbs
+pub mod Windows
+pub mod Raw

@@ -1,0 +1,68 @@
+-- The raw peaks of a trace. This project's own rule.
+use Rattle.std.specs.Prelude.{◌≡◌, ℕ, ◌+◌, ◌-◌, ◌*◌, ◌<◌, ◌≤◌, ◌&&◌, ◌==◌, Bool, List, [], ◌∷◌, map, length, int_le, nat_le, nat_lt, if◌then◌else◌}
+use Rattle.std.specs.List.{range_with_len, list_all, filter}
+use Rattle.cds_base.specs.declared.peak.RawPeak.{RawPeak}
+use Rattle.cds_trace.specs.Signal.{Signal, sample_at}
+use Rattle.cds_detect.specs.declared.raw.Raw.{Raw}
+use Rattle.cds_detect.specs.declared.raw.Raw.TheVariants as variant
+use Rattle.cds_detect.specs.declared.raw.TheConstants.{MOST_RAW_PEAKS}
+use Rattle.cds_detect.specs.Least.{least}
+use Rattle.cds_detect.specs.Classes.{Settings, class_count, classes}
+use Rattle.cds_detect.specs.Spans.{Span, spans}
+
+-- no sample of the range from..to, its ends in it, is above sample i
+abbrev pub is_greatest : Signal → ℕ → ℕ → ℕ → Bool
+is_greatest signal from to i = list_all (λ k. int_le (sample_at signal k) (sample_at signal i)) (range_with_len from (to + 1 - from))
+
+-- the first greatest sample of the range from..to
+abbrev pub first_greatest : Signal → ℕ → ℕ → ℕ
+first_greatest signal from to = least (is_greatest signal from to) from (to + 1)
+
+-- the last sample of a peak whose fall ends at this class: the first one of its bunch, or the trace's last one where the classes end
+abbrev pub end_sample : Signal → ℕ → ℕ → ℕ
+end_sample signal bunch end =
+    if end == class_count (length signal.samples) bunch then length signal.samples - 1 else end * bunch
+
+-- the range from..to with its first greatest sample
+abbrev pub peak_between : Signal → ℕ → ℕ → RawPeak
+peak_between signal from to = record { start = from; apex = first_greatest signal from to; end = to }
+
+-- the raw peak of a span of classes
+abbrev pub peak_of : Signal → ℕ → Span → RawPeak
+peak_of signal bunch span = peak_between signal (span.start * bunch) (end_sample signal bunch span.end)
+
+-- its apex lies strictly between its ends
+abbrev pub is_peak : RawPeak → Bool
+is_peak peak = nat_lt peak.start peak.apex && nat_lt peak.apex peak.end
+
+-- the raw peaks of these spans; one whose apex is its first or last sample is no peak, and left out
+abbrev pub peaks_of : Signal → ℕ → List Span → List RawPeak
+peaks_of signal bunch spans = filter is_peak (map (peak_of signal bunch) spans)
+
+-- the raw peaks of a trace, in the order of their times
+abbrev pub raw_peaks_of : Signal → Settings → List RawPeak
+raw_peaks_of signal settings = peaks_of signal settings.bunch (spans (classes signal settings) settings.plateau)
+
+-- the answer for these raw peaks: their list, or their number where there are more than a row may have
+abbrev pub answer_of : List RawPeak → Raw
+answer_of peaks = if nat_le (length peaks) MOST_RAW_PEAKS then variant.List peaks else variant.TooMany (length peaks)
+
+-- the peaks of an answer; one with more than a row may have has none
+abbrev pub peaks_in : Raw → List RawPeak
+peaks_in (variant.List peaks) = peaks
+peaks_in (variant.TooMany number) = []
+
+-- a raw peak that begins at this sample or behind it
+pub record IsRawPeak (signal : Signal) (at : ℕ) (peak : RawPeak) : Type 0 where
+  pub follows : at ≤ peak.start
+  -- its apex lies strictly inside, and is the first greatest sample of its range
+  pub rises : peak.start < peak.apex
+  pub falls : peak.apex < peak.end
+  pub apex : peak.apex ≡ first_greatest signal peak.start peak.end
+  -- it ends within the trace
+  pub ends : peak.end < length signal.samples
+
+-- raw peaks one after the other from this sample on; the end of one may be the start of the next
+abbrev pub StandFrom : Signal → ℕ → List RawPeak → Type 0
+StandFrom signal at [] = Unit {0}
+StandFrom signal at (peak ∷ peaks) = IsRawPeak signal at peak × StandFrom signal peak.end peaks

@@ -1,0 +1,29 @@
+ghost use Rattle.std.specs.Prelude.{◌≡◌, ◌+◌, ◌/◌, ◌<◌, ◌≤◌, length};
+ghost use Rattle.cds_trace.specs.Signal.{IsTrace};
+ghost use Rattle.cds_detect.specs.Classes.{class_count, bunch_sum};
+ghost use Rattle.cds_detect.specs.Bunches.{IsBunchSum};
+
+use cds_base::Steps;
+use cds_trace::Trace;
+use std::sync::ledger::Ledger;
+
+/// How many classes a trace of this many samples has.
+pub(crate) fn class_count(samples: u32, bunch: u32) -> u32
+    requires { 1 ≤ bunch }
+    ensures { result ≡ class_count samples bunch }
+{
+    (samples / bunch).saturating_sub(2)
+}
+
+/// The sum of the samples of bunch `j`. Two steps.
+pub(crate) fn bunch_sum<L: Ledger>(trace: &Trace, bunch: u32, j: u32, steps: &mut Steps<L>) -> i64
+    requires least { 1 ≤ bunch }
+    requires most { bunch ≤ 64 }
+    requires trace { IsTrace trace.now }
+    requires whole { j < length trace.now.samples / bunch }
+    ensures value { result ≡ bunch_sum trace.now bunch j }
+    ensures range { IsBunchSum result }
+    ensures counted { steps.new ≡ steps.old + 2 }
+{
+    trace.sum(j * bunch, j * bunch + bunch, steps)
+}

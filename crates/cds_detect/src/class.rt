@@ -1,0 +1,89 @@
+ghost use Rattle.std.specs.Prelude.{◌≡◌, ◌+◌, ◌<◌, ◌≤◌, length};
+ghost use Rattle.cds_detect.specs.Bunches.{IsBunchSum};
+ghost use Rattle.cds_detect.specs.Classes.{is_steep, class_between, class_of, class_count, bunch_sum};
+ghost use Rattle.cds_detect.specs.Spans.{is_up, is_down};
+ghost use Rattle.cds_detect.specs.Settings.{settings_of};
+
+use crate::slopes::{Slopes, is_inhibited, slopes_at};
+use cds_base::Event;
+use cds_rules::Method;
+use cds_trace::Trace;
+
+/// Whether the signal rises over two bunches, falls, does neither, or no peak may be there.
+#[derive(Clone, Copy, Debug)]
+pub(crate) enum Class {
+    /// An event forbids peaks at the time of the bunch.
+    Inhibited,
+    /// The signal rises by at least the slope that begins a peak.
+    Up,
+    /// The signal falls by at least the slope that ends one.
+    Down,
+    /// Neither.
+    Flat,
+}
+
+impl Class {
+    pub(crate) fn is_up(self) -> bool
+        ensures { result ≡ is_up self }
+    {
+        matches!(self, Class::Up)
+    }
+
+    pub(crate) fn is_down(self) -> bool
+        ensures { result ≡ is_down self }
+    {
+        matches!(self, Class::Down)
+    }
+}
+
+/// The class of bunch `at`, whose sum is `near`, and which is `far` two bunches further.
+pub(crate) fn class_of(
+    trace: &Trace,
+    method: &Method,
+    manual: &[Event],
+    at: u32,
+    near: i64,
+    far: i64,
+) -> Class
+    requires at { at < class_count (length trace.now.samples) method.now.bunch }
+    requires near { near ≡ bunch_sum trace.now method.now.bunch at }
+    requires near_range { IsBunchSum near }
+    requires far { far ≡ bunch_sum trace.now method.now.bunch (at + 2) }
+    requires far_range { IsBunchSum far }
+    ensures { result ≡ class_of trace.now (settings_of method.now manual.now) at }
+{
+    let period = trace.period();
+    let time = u64::from(at * method.bunch) * period;
+    let events = method.events.as_slice();
+    if is_inhibited(events, time) || is_inhibited(manual, time) {
+        return Class::Inhibited;
+    }
+    let slopes = slopes_at(method, manual, time);
+    class_between(slopes, method.bunch, period, near, far)
+}
+
+fn class_between(slopes: Slopes, bunch: u32, period: u64, near: i64, far: i64) -> Class
+    requires bunch { bunch ≤ 64 }
+    requires period { period ≤ 14400000000 }
+    requires near_range { IsBunchSum near }
+    requires far_range { IsBunchSum far }
+    ensures { result ≡ class_between slopes bunch period near far }
+{
+    let weight = 2 * u64::from(bunch) * u64::from(bunch) * period;
+    if is_steep(slopes.on, weight, near, far) {
+        Class::Up
+    } else if is_steep(slopes.off, weight, far, near) {
+        Class::Down
+    } else {
+        Class::Flat
+    }
+}
+
+fn is_steep(slope: u32, weight: u64, low: i64, high: i64) -> bool
+    requires low_range { IsBunchSum low }
+    requires high_range { IsBunchSum high }
+    ensures { result ≡ is_steep slope weight low high }
+{
+    let needed = u128::from(slope) * u128::from(weight);
+    high >= low && u128::from((high - low) as u64) * 1_000_000 >= needed
+}

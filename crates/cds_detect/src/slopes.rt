@@ -1,0 +1,85 @@
+ghost use Rattle.std.specs.Prelude.{◌≡◌};
+ghost use Rattle.cds_detect.specs.Slopes.{inhibits, is_inhibited, slopes_set, later_of, in_force, slopes_at};
+ghost use Rattle.cds_detect.specs.Settings.{settings_of};
+
+use cds_base::Event;
+use cds_rules::Method;
+
+/// Slope thresholds in counts per second, and the time in milliseconds from which on they are in force.
+#[derive(Clone, Copy, Debug)]
+pub(crate) struct Slopes {
+    pub at: u32,
+    pub on: u32,
+    pub off: u32,
+}
+
+/// Whether one of the events forbids peaks at the time, in microseconds.
+pub(crate) fn is_inhibited(events: &[Event], time: u64) -> bool
+    ensures { result ≡ is_inhibited events.now time }
+{
+    events.iter().any(|event| inhibits(*event, time))
+}
+
+fn inhibits(event: Event, time: u64) -> bool
+    ensures { result ≡ inhibits time event }
+{
+    match event {
+        Event::Inhibit { from, to } => {
+            1000 * u64::from(from) <= time && time < 1000 * u64::from(to)
+        }
+        _ => false,
+    }
+}
+
+/// The thresholds at a time, in microseconds: those of the slope event in force, among the method's and then the
+/// row's, and the method's own where there is none.
+#[tactic(auto, using(crate::proofs::SlopesLaws::more_laws))]
+pub(crate) fn slopes_at(method: &Method, manual: &[Event], time: u64) -> Slopes
+    ensures { let settings = settings_of method.now manual.now in result ≡ slopes_at settings.own settings.events time }
+{
+    let own = Slopes {
+        at: 0,
+        on: method.slope_on,
+        off: method.slope_off,
+    };
+    later_of(
+        in_force(method.events.as_slice(), time),
+        in_force(manual, time),
+    )
+    .unwrap_or(own)
+}
+
+/// The thresholds of the slope event with the greatest time not above this one, in microseconds; of equal times
+/// the later in the list.
+#[tactic(auto, using(crate::proofs::SlopesLaws::more_laws))]
+fn in_force(events: &[Event], time: u64) -> Option<Slopes>
+    ensures { result ≡ in_force events.now time }
+{
+    let mut latest = None;
+    for event in events {
+        latest = later_of(latest, slopes_set(*event, time));
+    }
+    latest
+}
+
+fn slopes_set(event: Event, time: u64) -> Option<Slopes>
+    ensures { result ≡ slopes_set time event }
+{
+    match event {
+        Event::Slope { at, on, off } if 1000 * u64::from(at) <= time => {
+            Some(Slopes { at, on, off })
+        }
+        _ => None,
+    }
+}
+
+/// Of two settings the later one, and the second where they have the same time.
+fn later_of(first: Option<Slopes>, second: Option<Slopes>) -> Option<Slopes>
+    ensures { result ≡ later_of first second }
+{
+    match (first, second) {
+        (Some(before), Some(after)) if after.at < before.at => first,
+        (_, None) => first,
+        _ => second,
+    }
+}
