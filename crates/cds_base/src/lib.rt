@@ -6,6 +6,7 @@
 #![tactic(auto)]
 
 mod bytes;
+mod cluster;
 mod event;
 mod failed;
 mod mem_sink;
@@ -19,6 +20,7 @@ mod steps;
 mod text;
 
 pub use bytes::Bytes;
+pub use cluster::{Boundary, Cluster, Part, PartList};
 pub use event::{Event, EventList};
 pub use failed::Failed;
 pub use mem_sink::MemSink;
@@ -32,3 +34,6 @@ pub use source::Source;
 pub use std::alloc::AllocError as NoMemory;
 pub use steps::Steps;
 pub use text::Text;
+
+#[cfg(test)]
+mod tests;

@@ -1,3 +1,5 @@
+pub mod PeaksAnswer
 pub mod Receiving
 pub mod Sending
 pub mod Words
+pub mod Run

@@ -4,6 +4,7 @@ use Rattle.std.specs.Char.{is_ascii_digit}
 use Rattle.std.specs.List.{list_all}
 use Rattle.std.specs.Str.{bytes_eq}
 use Rattle.std.specs.Str.Parse.{digits_value}
+use Rattle.cds_rules.specs.declared.limits.TheConstants.{MOST_BUNCH, MOST_SLOPE, MOST_PLATEAU}
 use Rattle.cds_desk.specs.declared.words.PeaksOptions.{PeaksOptions}
 
 -- 1 to 20 decimal digits, and nothing else
@@ -50,5 +51,5 @@ options_from _ _ _ _ = None
 abbrev pub options_of : List (List ℕ) → Option PeaksOptions
 options_of words =
     if are_peaks_words words
-    then options_from (number_in 1 64 (word_at words 2)) (number_in 1 1000000000 (word_at words 4)) (number_in 1 1000000000 (word_at words 6)) (number_in 0 1000 (word_at words 8))
+    then options_from (number_in 1 MOST_BUNCH (word_at words 2)) (number_in 1 MOST_SLOPE (word_at words 4)) (number_in 1 MOST_SLOPE (word_at words 6)) (number_in 0 MOST_PLATEAU (word_at words 8))
     else None

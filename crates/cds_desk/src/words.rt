@@ -1,23 +1,17 @@
-ghost use Rattle.std.specs.Prelude.{◌≡◌, IsTrue, map};
+ghost use Rattle.std.specs.Prelude.{◌≡◌, ◌≤◌, IsTrue, IfSome, map};
 ghost use Rattle.std.specs.Char.{is_ascii_digit};
 ghost use Rattle.std.specs.List.{list_all};
 ghost use Rattle.std.specs.Str.{bytes_eq};
 ghost use Rattle.std.specs.Str.Parse.{digits_value};
 ghost use Rattle.std.specs.String.{string_bytes};
+ghost use Rattle.cds_rules.specs.Ranges.{SlopeRanges};
 ghost use Rattle.cds_desk.specs.Words.{options_of, are_peaks_words, number_in, number_of, is_number, below_2_64};
 
-/// The most samples in a bunch.
-const MOST_BUNCH: u32 = 64;
-
-/// The greatest slope threshold, in counts per second.
-const GREATEST_SLOPE: u32 = 1_000_000_000;
-
-/// The most flat bunches that a climb passes over.
-const MOST_PLATEAU: u32 = 1_000;
+use cds_rules::{MOST_BUNCH, MOST_PLATEAU, MOST_SLOPE};
 
 /// What the words of `peaks` set.
 #[derive(Clone, Copy, Debug, PartialEq, Eq)]
-pub(crate) struct PeaksOptions {
+pub struct PeaksOptions {
     pub bunch: u32,
     pub slope_on: u32,
     pub slope_off: u32,
@@ -27,7 +21,8 @@ pub(crate) struct PeaksOptions {
 /// The options that the words state: `peaks --bunch B --on T --off T --plateau P`, each option as two words
 /// and in this order. None exactly where the words are no command.
 pub(crate) fn read_words(words: &[String]) -> Option<PeaksOptions>
-    ensures { result ≡ options_of (map string_bytes words.now) }
+    ensures value { result ≡ options_of (map string_bytes words.now) }
+    ensures ranges { IfSome result (λ o. SlopeRanges o.bunch o.slope_on o.slope_off o.plateau) }
 {
     if !are_peaks_words(words) {
         return None;
@@ -35,10 +30,10 @@ pub(crate) fn read_words(words: &[String]) -> Option<PeaksOptions>
     let Some(bunch) = number_in(&words[2], 1, MOST_BUNCH) else {
         return None;
     };
-    let Some(slope_on) = number_in(&words[4], 1, GREATEST_SLOPE) else {
+    let Some(slope_on) = number_in(&words[4], 1, MOST_SLOPE) else {
         return None;
     };
-    let Some(slope_off) = number_in(&words[6], 1, GREATEST_SLOPE) else {
+    let Some(slope_off) = number_in(&words[6], 1, MOST_SLOPE) else {
         return None;
     };
     let Some(plateau) = number_in(&words[8], 0, MOST_PLATEAU) else {
@@ -72,7 +67,8 @@ fn is_word(word: &String, text: &str) -> bool
 
 /// The number that 1 to 20 digits write, where it lies from `low` to `high`.
 fn number_in(word: &String, low: u32, high: u32) -> Option<u32>
-    ensures { result ≡ number_in low high (string_bytes word.now) }
+    ensures value { result ≡ number_in low high (string_bytes word.now) }
+    ensures range { IfSome result (λ n. (low ≤ n) × (n ≤ high)) }
 {
     let Some(number) = number_of(word.as_str()) else {
         return None;

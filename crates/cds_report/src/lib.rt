@@ -5,4 +5,4 @@
 
 mod peaks;
 
-pub use peaks::peaks_table;
+pub use peaks::peaks_text;

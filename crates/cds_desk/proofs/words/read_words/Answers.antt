@@ -10,5 +10,5 @@ none_second None on off p e = refl
 none_second (Some b) None off p e = refl
 none_second (Some b) (Some on) off p e = cc
 
-pub returns-in_default-number_in : goal.returns-in_default-number_in
-returns-in_default-number_in c = rw (← c.if-not-are_peaks_words.ensures) (none_second _ _ _ _ (grind (arith, common_steps)))
+pub returns-in_default-number_in-clause-value : goal.returns-in_default-number_in-clause-value
+returns-in_default-number_in-clause-value c = rw (← c.if-not-are_peaks_words.ensures) (none_second _ _ _ _ (grind (arith, common_steps)))

@@ -1,0 +1,26 @@
+-- What the top call does with the devices that it is given.
+use Rattle.std.specs.Prelude.{◌≡◌, ◌⊎◌, ℕ, ◌==◌, List, [], ◌∷◌, Option, IfSome, IsTrue}
+use Rattle.std.specs.List.{list_any}
+use Rattle.cds_base.specs.Faults.{Rose}
+use Rattle.cds_base.specs.Told.{then_more}
+use Rattle.cds_desk.specs.Sending.{HoldsPrefix}
+use Rattle.cds_desk.specs.Words.{options_of}
+use Rattle.cds_desk.specs.PeaksAnswer.{peaks_answer}
+use Rattle.cds_desk.specs.declared.answer.Answer.{Answer}
+use Rattle.cds_desk.specs.declared.words.PeaksOptions.{PeaksOptions}
+
+-- a front of the text stands behind what the sink held, and all of it unless the sink failed
+abbrev pub Sent : Option (List ℕ) → Option (List ℕ) → ℕ → ℕ → List ℕ → Type 0
+Sent before now faults_before faults_now text = HoldsPrefix before now text × ((now ≡ then_more before text) ⊎ Rose faults_before faults_now)
+
+-- the fact of the answer of `peaks` with these options to these bytes, where the bytes are told
+abbrev pub OfBytes : PeaksOptions → Option (List ℕ) → (Answer → Type 0) → Type 0
+OfBytes options bytes P = IfSome bytes (λ b. P (peaks_answer options b))
+
+-- the same with the options that the words state, where they state some
+abbrev pub OfAnswer : List (List ℕ) → Option (List ℕ) → (Answer → Type 0) → Type 0
+OfAnswer words bytes P = IfSome (options_of words) (λ options. OfBytes options bytes P)
+
+-- 0 done, 1 refused, 2 no command, 3 the source failed, 4 the sink failed, 6 no memory
+abbrev pub IsStatus : ℕ → Type 0
+IsStatus status = IsTrue (list_any (λ s. s == status) (0 ∷ 1 ∷ 2 ∷ 3 ∷ 4 ∷ 6 ∷ []))
