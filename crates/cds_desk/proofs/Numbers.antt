@@ -24,5 +24,6 @@ parsed_digits text r h number = found_below (length text) (digits_value 10 text)
   where
     some_of : (text : List ℕ) → IsTrue (is_number text) → 1 ≤ length text
     some_of text number = grind (arith, nat_tests, common_steps)
+
     digits_of : (text : List ℕ) → IsTrue (is_number text) → list_all is_ascii_digit text ≡ true
     digits_of text number = grind (arith, nat_tests, common_steps)

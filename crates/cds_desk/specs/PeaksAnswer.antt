@@ -18,7 +18,7 @@ settings_of_options options = record {
   bunch = options.bunch;
   own = record { at = 0; on = options.slope_on; off = options.slope_off };
   plateau = options.plateau;
-  events = []
+  events = [];
 }
 
 -- the line of a refusal: `refused N`, and `record R` behind it where it has a record

@@ -3,17 +3,15 @@ ghost use Rattle.cds_rules.specs.Ranges.{SlopeRanges};
 ghost use Rattle.cds_desk.specs.PeaksAnswer.{peaks_answer, answer_to_trace, refusal, refusal_line};
 ghost use Rattle.std.specs.String.{string_bytes};
 
-use std::alloc::Global;
-use std::sync::ledger::Ledger;
-
+use crate::receiving::MOST_SOURCE_BYTES;
+use crate::words::PeaksOptions;
 use cds_base::{Bytes, NoMemory, Steps};
 use cds_detect::raw_peaks;
 use cds_report::peaks_text;
 use cds_rules::Method;
 use cds_trace::{Trace, TraceError};
-
-use crate::receiving::MOST_SOURCE_BYTES;
-use crate::words::PeaksOptions;
+use std::alloc::Global;
+use std::sync::ledger::Ledger;
 
 /// The status of a command that was carried out.
 pub const DONE: u8 = 0;

@@ -10,3 +10,6 @@ mod words;
 pub use answer::{DONE, REFUSED, TOO_MANY_BYTES};
 pub use receiving::MOST_SOURCE_BYTES;
 pub use top::{NO_COMMAND, NO_MEMORY, SINK_FAILED, SOURCE_FAILED, run};
+
+#[cfg(test)]
+mod tests;

@@ -4,9 +4,8 @@ ghost use Rattle.cds_desk.specs.Receiving.{AreReceived};
 ghost use Rattle.cds_desk.specs.declared.receiving.ReceiveError.TheVariants.{NoMemory};
 ghost use Rattle.cds_desk.specs.declared.receiving.TheConstants.{MOST_SOURCE_BYTES};
 
-use std::alloc::{AllocError, Global};
-
 use cds_base::{Failed, Source};
+use std::alloc::{AllocError, Global};
 
 /// The most bytes that a command reads from its source.
 pub const MOST_SOURCE_BYTES: usize = 4_194_304;

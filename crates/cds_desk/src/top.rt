@@ -7,15 +7,13 @@ ghost use Rattle.cds_desk.specs.Sending.{HoldsPrefix};
 ghost use Rattle.cds_desk.specs.Words.{options_of};
 ghost use Rattle.cds_desk.specs.Run.{Sent, OfAnswer, OfBytes, IsStatus};
 
-use std::alloc::Global;
-use std::sync::ledger::Ledger;
-
-use cds_base::{Failed, Sink, Source, Steps};
-
 use crate::answer::{Answer, DONE, REFUSED, peaks_answer};
 use crate::receiving::{ReceiveError, receive};
 use crate::sending::send;
 use crate::words::{PeaksOptions, read_words};
+use cds_base::{Failed, Sink, Source, Steps};
+use std::alloc::Global;
+use std::sync::ledger::Ledger;
 
 /// The status where the words are no command.
 pub const NO_COMMAND: u8 = 2;

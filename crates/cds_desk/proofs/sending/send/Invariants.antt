@@ -6,7 +6,7 @@ abbrev pub invariant-loop-sent : goal.invariant-loop-sent
 invariant-loop-sent g l = record {
   within : l.sent ≤ length l.text;
   written : g.W.Sink.written l.sink ≡ then_more (g.W.Sink.written l.initial.sink) (take l.sent l.text);
-  counts : g.W.Sink.faults l.initial.sink ≤ g.W.Sink.faults l.sink
+  counts : g.W.Sink.faults l.initial.sink ≤ g.W.Sink.faults l.sink;
 }
 
 abbrev pub decreases-loop-sent : goal.decreases-loop-sent

@@ -1,0 +1,166 @@
+ghost use Rattle.std.specs.Prelude.{◌≡◌, ◌<◌};
+
+use crate::run;
+use cds_base::{MemSink, MemSource, Sink, Source, Steps};
+use std::alloc::Global;
+use std::marker::Brand;
+use std::sync::ledger::{Blank, Ledger};
+use std::test::Fail;
+
+// The top call, with a counter of steps of its own.
+fn counted<S: Source, W: Sink, L: Ledger>(
+    blank: Blank,
+    alloc: Global,
+    words: &[String],
+    source: &mut S,
+    sink: &mut W,
+) -> u8
+    requires name { blank.name ≡ L.name }
+    requires parts { blank.parts ≡ L.parts }
+    requires some { 0 < blank.parts }
+{
+    let mut steps = Steps::<L>::new(blank);
+    run(alloc, words, source, sink, &mut steps)
+}
+
+// The status and what the sink holds, where the calls of these numbers fail.
+fn outcome(
+    alloc: Global,
+    words: &[String],
+    bytes: &[u8],
+    failing_reads: &[u64],
+    failing_writes: &[u64],
+) -> Result<(u8, Vec<u8>), Fail> {
+    let mut source = MemSource::new(alloc, bytes, 7, failing_reads)?;
+    let mut sink = MemSink::new(alloc, 9, failing_writes)?;
+    let status = counted::<MemSource, MemSink, Brand>(
+        Blank::new(1),
+        alloc,
+        words,
+        &mut source,
+        &mut sink,
+    );
+    Ok((status, Vec::from_slice(alloc, sink.written())?))
+}
+
+fn words_of(alloc: Global, line: &str) -> Result<Vec<String>, Fail> {
+    let mut words = Vec::new(alloc);
+    for word in line.split_whitespace() {
+        words.push(String::from_str(alloc, word)?)?;
+    }
+    Ok(words)
+}
+
+// A trace of one sample a second.
+fn trace_of(alloc: Global, samples: &[i32]) -> Result<String, Fail> {
+    let mut text = String::from_str(alloc, "time_us,signal\n")?;
+    let mut time: u64 = 0;
+    for sample in samples {
+        write!(text, "{time},{sample}\n")?;
+        time = time.saturating_add(1_000_000);
+    }
+    Ok(text)
+}
+
+const PEAKS: &str = "peaks --bunch 1 --on 5 --off 5 --plateau 3";
+
+#[test]
+fn traces_have_these_raw_peaks(rt: HostRuntime) -> Result<(), Fail> {
+    let rows: [(&[i32], &str); 6] = [
+        // One peak, from the sample where it begins to rise to the one where it has fallen.
+        (&[0, 0, 0, 10, 40, 60, 40, 10, 0, 0, 0], "1,1,5,8\n"),
+        // Two samples have no class.
+        (&[7, 7], ""),
+        // A climb is abandoned at its fourth flat class, and the next one is a peak.
+        (
+            &[0, 0, 10, 10, 10, 10, 10, 10, 20, 40, 20, 10, 10, 10],
+            "1,6,9,11\n",
+        ),
+        // The classes end in a fall: the peak ends with the trace.
+        (&[0, 0, 0, 20, 60, 100, 80, 60, 40], "1,1,5,8\n"),
+        // An apex at the end of its range is no peak.
+        (&[0, 10, 20, 0, 20], ""),
+        // Two peaks that touch.
+        (
+            &[0, 0, 0, 10, 40, 60, 40, 20, 40, 60, 40, 10, 0, 0, 0],
+            "1,1,5,6\n2,7,9,12\n",
+        ),
+    ];
+    let words = words_of(rt.alloc(), PEAKS)?;
+    for (samples, lines) in rows {
+        let trace = trace_of(rt.alloc(), samples)?;
+        let (status, text) = outcome(rt.alloc(), &words, trace.as_bytes(), &[], &[])?;
+        let table = format!(in rt.alloc(); "peak,start,apex,end\n{lines}")?;
+        assert_eq!(rt; status, 0);
+        assert_eq!(rt; text.as_slice(), table.as_bytes());
+    }
+    Ok(())
+}
+
+#[test]
+fn refusals_name_their_number_and_record(rt: HostRuntime) -> Result<(), Fail> {
+    let rows: [(&[u8], &[u8]); 7] = [
+        (b"", b"refused 2\n"),
+        (b"time_us,signal\n0,1\n", b"refused 5\n"),
+        (b"time_us,signal\n0,1\n1000,x\n", b"refused 3 record 3\n"),
+        (
+            b"time_us,signal\n0,1\n1000,2\n2500,3\n",
+            b"refused 4 record 4\n",
+        ),
+        (b"time_us,signal\n0,100000001\n", b"refused 7 record 2\n"),
+        (b"time_us,signal\n0,1\n1000,2,3\n", b"refused 1 record 3\n"),
+        (
+            b"\xef\xbb\xbf time_us\t, signal \n0,1\n 1000 ,\t2\n",
+            b"peak,start,apex,end\n",
+        ),
+    ];
+    let words = words_of(rt.alloc(), PEAKS)?;
+    for (bytes, line) in rows {
+        let (status, text) = outcome(rt.alloc(), &words, bytes, &[], &[])?;
+        assert_eq!(rt; text.as_slice(), line);
+        assert_eq!(rt; status, if line.starts_with(b"refused") { 1 } else { 0 });
+    }
+    Ok(())
+}
+
+#[test]
+fn more_than_500_raw_peaks_are_counted(rt: HostRuntime) -> Result<(), Fail> {
+    let words = words_of(rt.alloc(), PEAKS)?;
+    let mut samples = Vec::new(rt.alloc());
+    for _ in 0..500 {
+        samples.extend_from_slice(&[0, 0, 0, 10, 40, 60, 40, 10, 0, 0, 0])?;
+    }
+    let trace = trace_of(rt.alloc(), &samples)?;
+    let (status, text) = outcome(rt.alloc(), &words, trace.as_bytes(), &[], &[])?;
+    assert_eq!(rt; status, 0);
+    assert!(rt; text.as_slice().ends_with(b"\n500,5490,5494,5497\n"));
+    samples.extend_from_slice(&[0, 0, 0, 10, 40, 60, 40, 10, 0, 0, 0])?;
+    let longer = trace_of(rt.alloc(), &samples)?;
+    let (_, text) = outcome(rt.alloc(), &words, longer.as_bytes(), &[], &[])?;
+    assert_eq!(rt; text.as_slice(), b"too many 501\n".as_slice());
+    Ok(())
+}
+
+#[test]
+fn devices_that_fail_end_the_command(rt: HostRuntime) -> Result<(), Fail> {
+    let words = words_of(rt.alloc(), PEAKS)?;
+    let none = words_of(rt.alloc(), "peaks --bunch 65 --on 5 --off 5 --plateau 3")?;
+    let trace = trace_of(rt.alloc(), &[0, 0, 0, 10, 40, 60, 40, 10, 0, 0, 0])?;
+    let bytes = trace.as_bytes();
+    let unread = outcome(rt.alloc(), &words, bytes, &[3], &[])?;
+    assert_eq!(rt; unread.0, 3);
+    assert!(rt; unread.1.is_empty());
+    let unwritten = outcome(rt.alloc(), &words, bytes, &[], &[2])?;
+    assert_eq!(rt; unwritten.0, 4);
+    assert_eq!(rt; unwritten.1.as_slice(), b"peak,star".as_slice());
+    let refused = outcome(rt.alloc(), &words, b"", &[], &[2])?;
+    assert_eq!(rt; refused.0, 1);
+    assert_eq!(rt; refused.1.as_slice(), b"refused 2".as_slice());
+    let no_command = outcome(rt.alloc(), &none, bytes, &[1], &[])?;
+    assert_eq!(rt; no_command.0, 2);
+    assert_eq!(rt;
+        no_command.1.as_slice(),
+        b"usage: cds peaks|session|serve|demo\n".as_slice()
+    );
+    Ok(())
+}
