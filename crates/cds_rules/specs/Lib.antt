@@ -1,2 +1,5 @@
 pub mod Ranges
 pub mod Fields
+pub mod Section
+pub mod Values
+pub mod Seen

@@ -6,11 +6,15 @@
 
 mod check;
 mod component;
+mod error;
 mod limits;
 mod method;
+mod section;
+mod values;
 
 pub use check::{Check, CheckKind, CheckList};
 pub use component::{Component, ComponentList};
+pub use error::MethodError;
 pub use limits::{
     LAST_TIME_MS, MOST_AREA, MOST_BUNCH, MOST_CHECKS, MOST_COMPONENTS, MOST_DEAD_TIME_US,
     MOST_EVENTS, MOST_FUSE, MOST_HEIGHT, MOST_LIMIT, MOST_METHOD_BYTES, MOST_PLATEAU,
