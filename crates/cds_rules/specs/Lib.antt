@@ -3,3 +3,4 @@ pub mod Fields
 pub mod Section
 pub mod Values
 pub mod Seen
+pub mod Stated

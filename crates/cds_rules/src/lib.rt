@@ -9,6 +9,8 @@ mod component;
 mod error;
 mod limits;
 mod method;
+mod read_component;
+mod read_event;
 mod section;
 mod values;
 

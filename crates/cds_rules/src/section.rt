@@ -6,12 +6,12 @@ ghost use Rattle.std.specs.Str.{bytes_eq};
 ghost use Rattle.toml.specs.Data.{get_member};
 ghost use Rattle.toml.specs.View.{view, table_view, items_view};
 ghost use Rattle.cds_rules.specs.Section.{Gives, Refuses, needed, in_range, required, optional, only, entries, entry_path, entry};
-ghost use Rattle.cds_rules.specs.Values.{number_in};
+ghost use Rattle.cds_rules.specs.Values.{number_in, name_in};
 ghost use Rattle.cds_rules.specs.Seen.{seen};
 
 use crate::error::MethodError;
-use crate::values::number_in;
-use cds_base::Text;
+use crate::values::{name_in, number_in};
+use cds_base::{Name, Text};
 use std::alloc::{AllocError, Global};
 use toml::{Table, Value};
 
@@ -118,6 +118,15 @@ impl<'a> Section<'a> {
             Some(value) => Ok(value),
             None => Err(self.out_of_range(name)),
         }
+    }
+
+    /// The name that a field states.
+    #[tactic(auto, unfolding(crate::specs::Section::required))]
+    pub(crate) fn name(&self, name: &str) -> Result<Name, MethodError>
+        ensures { Gives (λ x. x) (required name_in name.now (seen self.now)) result }
+    {
+        let value = self.needed(name)?;
+        self.in_range(name, name_in(value))
     }
 
     /// The whole number from `least` to `most` that a field states.
