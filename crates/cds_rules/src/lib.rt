@@ -9,8 +9,11 @@ mod component;
 mod error;
 mod limits;
 mod method;
+mod read_check;
 mod read_component;
 mod read_event;
+mod read_method;
+mod read_numbers;
 mod section;
 mod values;
 

@@ -16,7 +16,7 @@ use crate::section::{Section, entry};
 use cds_base::Name;
 
 /// The components of a method.
-#[tactic(auto, unfolding(crate::specs::Stated::list_of))]
+#[tactic(auto, using(crate::proofs::Entries::judging), unfolding(crate::specs::Stated::list_of))]
 pub(crate) fn components(section: &Section) -> Result<ComponentList, MethodError>
     ensures value { Gives (λ x. x) (list_of component_of (codes "component") MOST_COMPONENTS (seen section.now)) result }
     ensures ranges { IfOk result ComponentRanges }

@@ -14,7 +14,7 @@ use crate::values::{EventKind, event_kind_in};
 use cds_base::{Event, EventList};
 
 /// The timed events of a method.
-#[tactic(auto, unfolding(crate::specs::Stated::list_of))]
+#[tactic(auto, using(crate::proofs::Entries::judging), unfolding(crate::specs::Stated::list_of))]
 pub(crate) fn events(section: &Section) -> Result<EventList, MethodError>
     ensures value { Gives (λ x. x) (list_of (λ _. event_of) (codes "event") MOST_EVENTS (seen section.now)) result }
     ensures ranges { IfOk result EventRanges }

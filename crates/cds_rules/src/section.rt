@@ -1,5 +1,5 @@
 //! A table of a method's text, and the judging of its fields one by one.
-ghost use Rattle.std.specs.Prelude.{◌≡◌, ◌≤◌, ◌++◌, ℕ, Some, option_map, string_bytes, IfOk, map, length, find, not, option_copied};
+ghost use Rattle.std.specs.Prelude.{◌≡◌, ◌≤◌, ◌++◌, ℕ, Some, option_map, string_bytes, IfOk, map, length, find, not, option_copied, is_some};
 ghost use Rattle.std.specs.BTreeMap.{keys};
 ghost use Rattle.std.specs.List.{list_any};
 ghost use Rattle.std.specs.Str.{bytes_eq};
@@ -48,6 +48,13 @@ impl<'a> Section<'a> {
         ensures { option_map (λ v. view v.now) result ≡ get_member name.now (seen self.now).fields }
     {
         self.table.get(name)
+    }
+
+    /// Whether a field is there.
+    pub(crate) fn has(&self, name: &str) -> bool
+        ensures { result ≡ is_some (get_member name.now (seen self.now).fields) }
+    {
+        self.value(name).is_some()
     }
 
     /// The path of a field.
