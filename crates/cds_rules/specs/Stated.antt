@@ -10,6 +10,7 @@ use Rattle.cds_base.specs.declared.event.Event.TheVariants.{Inhibit, Valley, Dro
 use Rattle.cds_rules.specs.declared.check.Check.{Check}
 use Rattle.cds_rules.specs.declared.check.CheckKind.{CheckKind}
 use Rattle.cds_rules.specs.declared.component.Component.{Component}
+use Rattle.cds_rules.specs.declared.method.Weight.{Weight}
 use Rattle.cds_rules.specs.declared.values.EventKind.{EventKind}
 use Rattle.cds_rules.specs.declared.values.EventKind.TheVariants as kind
 use Rattle.cds_rules.specs.declared.error.MethodError.{MethodError}
@@ -47,7 +48,18 @@ noise_of s =
       Ok (Some from, Some to))
     else Ok (None, None)
 
--- the fields of the whole text, without its lists
+-- the fields of a method that are no lists
+unfoldable pub numbers_of : Section → Result ((ℕ × ℕ × ℕ × ℕ) × (ℕ × ℕ × ℕ) × Weight × Option ℕ × (Option ℕ × Option ℕ) × ℕ) MethodError
+numbers_of s = do
+  slopes ← slopes_of s
+  least ← least_of s
+  weight ← required weight_in (codes "weight") s
+  dead_time_us ← optional (number_in 1 MOST_DEAD_TIME_US) (codes "dead_time_us") s
+  noise ← noise_of s
+  rules ← optional (number_in RULES RULES) (codes "rules") s
+  Ok (slopes, least, weight, dead_time_us, noise, unwrap_or rules RULES)
+
+-- the names of the fields of the whole text
 abbrev pub top_fields : List (List ℕ)
 top_fields = codes "bunch" ∷ codes "slope_on" ∷ codes "slope_off" ∷ codes "plateau" ∷ codes "fuse" ∷ codes "min_area" ∷ codes "min_height" ∷ codes "weight" ∷ codes "dead_time_us" ∷ codes "noise_from_ms" ∷ codes "noise_to_ms" ∷ codes "rules" ∷ codes "component" ∷ codes "event" ∷ codes "check" ∷ []
 
@@ -127,20 +139,35 @@ list_of judge name most s = do
   ds ← entries name most s
   each judge name [] ds
 
+-- the fields of a method, from its numbers and its lists
+abbrev pub fields_from : (ℕ × ℕ × ℕ × ℕ) × (ℕ × ℕ × ℕ) × Weight × Option ℕ × (Option ℕ × Option ℕ) × ℕ → List Component → List Event → List Check → Fields
+fields_from (slopes, least, weight, dead_time_us, noise, rules) components events checks = record {
+  bunch = slopes.0;
+  slope_on = slopes.1;
+  slope_off = slopes.2;
+  plateau = slopes.3;
+  fuse = least.0;
+  min_area = least.1;
+  min_height = least.2;
+  weight = weight;
+  dead_time_us = dead_time_us;
+  noise_from_ms = noise.0;
+  noise_to_ms = noise.1;
+  rules = rules;
+  components = components;
+  events = events;
+  checks = checks;
+}
+
 -- a method
 unfoldable pub method_of : Section → Result Fields MethodError
 method_of s = do
-  slopes ← slopes_of s
-  least ← least_of s
-  weight ← required weight_in (codes "weight") s
-  dead_time_us ← optional (number_in 1 MOST_DEAD_TIME_US) (codes "dead_time_us") s
-  noise ← noise_of s
-  rules ← optional (number_in RULES RULES) (codes "rules") s
+  numbers ← numbers_of s
   _ ← only top_fields s
   components ← list_of component_of (codes "component") MOST_COMPONENTS s
   events ← list_of (λ _. event_of) (codes "event") MOST_EVENTS s
   checks ← list_of (λ _. check_of components) (codes "check") MOST_CHECKS s
-  Ok (record { bunch = slopes.0; slope_on = slopes.1; slope_off = slopes.2; plateau = slopes.3; fuse = least.0; min_area = least.1; min_height = least.2; weight = weight; dead_time_us = dead_time_us; noise_from_ms = noise.0; noise_to_ms = noise.1; rules = unwrap_or rules RULES; components = components; events = events; checks = checks })
+  Ok (fields_from numbers components events checks)
 
 -- the table of a text, which is TOML in UTF-8
 unfoldable pub document : List ℕ → Option Members

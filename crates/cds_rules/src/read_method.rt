@@ -3,17 +3,17 @@ ghost use Rattle.std.specs.Prelude.{ok_or, ◌≡◌};
 ghost use Rattle.toml.specs.View.{table_view};
 ghost use Rattle.cds_rules.specs.declared.error.MethodError.TheVariants.{NotToml};
 ghost use Rattle.cds_rules.specs.Fields.{fields_of};
-ghost use Rattle.cds_rules.specs.Section.{Gives};
+ghost use Rattle.cds_rules.specs.Section.{Gives, only};
 ghost use Rattle.cds_rules.specs.Seen.{seen};
-ghost use Rattle.cds_rules.specs.Stated.{method_of, document, stated};
+ghost use Rattle.cds_rules.specs.Stated.{method_of, top_fields, document, stated};
 
 use crate::error::MethodError;
-use crate::limits::{MOST_DEAD_TIME_US, MOST_METHOD_BYTES, RULES};
+use crate::limits::MOST_METHOD_BYTES;
 use crate::method::Method;
 use crate::read_check::checks;
 use crate::read_component::components;
 use crate::read_event::events;
-use crate::read_numbers::{Least, Noise, Slopes, weight};
+use crate::read_numbers::Numbers;
 use crate::section::Section;
 use std::alloc::Global;
 use toml::Table;
@@ -38,7 +38,6 @@ impl Method {
 }
 
 /// The table of a text, which is TOML in UTF-8.
-#[tactic(auto, unfolding(crate::specs::Stated::document))]
 fn table(alloc: Global, bytes: &[u8]) -> Result<Table, MethodError>
     ensures { Gives (λ t. table_view t) (ok_or (document bytes.now) NotToml) result }
 {
@@ -58,12 +57,34 @@ fn table(alloc: Global, bytes: &[u8]) -> Result<Table, MethodError>
 fn method(section: &Section) -> Result<Method, MethodError>
     ensures { Gives fields_of (method_of (seen section.now)) result }
 {
-    let slopes = Slopes::read(section)?;
-    let least = Least::read(section)?;
-    let weight = weight(section)?;
-    let dead_time_us = section.optional_number("dead_time_us", 1, MOST_DEAD_TIME_US)?;
-    let noise = Noise::read(section)?;
-    let rules = section.optional_number("rules", u64::from(RULES), u64::from(RULES))?;
+    let numbers = Numbers::read(section)?;
+    only_top(section)?;
+    let components = components(section)?;
+    let events = events(section)?;
+    let checks = checks(components.as_slice(), section)?;
+    Ok(Method {
+        bunch: numbers.slopes.bunch,
+        slope_on: numbers.slopes.slope_on,
+        slope_off: numbers.slopes.slope_off,
+        plateau: numbers.slopes.plateau,
+        fuse: numbers.least.fuse,
+        min_area: numbers.least.min_area,
+        min_height: numbers.least.min_height,
+        weight: numbers.weight,
+        dead_time_us: numbers.dead_time_us,
+        noise_from_ms: numbers.noise.from_ms,
+        noise_to_ms: numbers.noise.to_ms,
+        rules: numbers.rules,
+        components,
+        events,
+        checks,
+    })
+}
+
+/// Refuses the first field that a method's text may not have.
+fn only_top(section: &Section) -> Result<(), MethodError>
+    ensures { Gives (λ x. x) (only top_fields (seen section.now)) result }
+{
     section.only(&[
         "bunch",
         "slope_on",
@@ -80,25 +101,5 @@ fn method(section: &Section) -> Result<Method, MethodError>
         "component",
         "event",
         "check",
-    ])?;
-    let components = components(section)?;
-    let events = events(section)?;
-    let checks = checks(components.as_slice(), section)?;
-    Ok(Method {
-        bunch: slopes.bunch,
-        slope_on: slopes.slope_on,
-        slope_off: slopes.slope_off,
-        plateau: slopes.plateau,
-        fuse: least.fuse,
-        min_area: least.min_area,
-        min_height: least.min_height,
-        weight,
-        dead_time_us,
-        noise_from_ms: noise.from_ms,
-        noise_to_ms: noise.to_ms,
-        rules: rules.unwrap_or(u64::from(RULES)) as u8,
-        components,
-        events,
-        checks,
-    })
+    ])
 }

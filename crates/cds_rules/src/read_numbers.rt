@@ -1,15 +1,16 @@
 //! Reading the numbers of a method's text, group by group.
 ghost use Rattle.std.specs.Prelude.{◌≡◌, ◌<◌, ◌≤◌, ℕ, Some, IfOk, codes, is_some};
-ghost use Rattle.cds_rules.specs.declared.limits.TheConstants.{LAST_TIME_MS};
-ghost use Rattle.cds_rules.specs.Ranges.{SlopeRanges, LeastRanges};
+ghost use Rattle.cds_rules.specs.declared.limits.TheConstants.{LAST_TIME_MS, RULES};
+ghost use Rattle.cds_rules.specs.Ranges.{SlopeRanges, LeastRanges, TimeRanges};
 ghost use Rattle.cds_rules.specs.Section.{Gives, required};
 ghost use Rattle.cds_rules.specs.Seen.{seen};
-ghost use Rattle.cds_rules.specs.Stated.{slopes_of, least_of, noise_of};
+ghost use Rattle.cds_rules.specs.Stated.{slopes_of, least_of, noise_of, numbers_of};
 ghost use Rattle.cds_rules.specs.Values.{weight_in};
 
 use crate::error::MethodError;
 use crate::limits::{
-    LAST_TIME_MS, MOST_AREA, MOST_BUNCH, MOST_FUSE, MOST_HEIGHT, MOST_PLATEAU, MOST_SLOPE,
+    LAST_TIME_MS, MOST_AREA, MOST_BUNCH, MOST_DEAD_TIME_US, MOST_FUSE, MOST_HEIGHT, MOST_PLATEAU,
+    MOST_SLOPE, RULES,
 };
 use crate::method::Weight;
 use crate::section::Section;
@@ -42,6 +43,41 @@ pub(crate) struct Noise {
     ghost both: { is_some from_ms ≡ is_some to_ms },
     ghost order: { (from : ℕ) → from_ms ≡ Some from → (to : ℕ) → to_ms ≡ Some to → from < to },
     ghost most: { (to : ℕ) → to_ms ≡ Some to → to ≤ LAST_TIME_MS },
+}
+
+/// The fields of a method that are no lists.
+#[derive(Clone, Copy)]
+pub(crate) struct Numbers {
+    pub(crate) slopes: Slopes,
+    pub(crate) least: Least,
+    pub(crate) weight: Weight,
+    pub(crate) dead_time_us: Option<u64>,
+    pub(crate) noise: Noise,
+    pub(crate) rules: u8,
+    ghost times: { TimeRanges dead_time_us noise.from_ms noise.to_ms },
+    ghost edition: { rules ≡ RULES },
+}
+
+impl Numbers {
+    #[tactic(auto, unfolding(crate::specs::Stated::numbers_of))]
+    pub(crate) fn read(section: &Section) -> Result<Numbers, MethodError>
+        ensures { Gives (λ x. ((x.slopes.bunch, x.slopes.slope_on, x.slopes.slope_off, x.slopes.plateau), (x.least.fuse, x.least.min_area, x.least.min_height), x.weight, x.dead_time_us, (x.noise.from_ms, x.noise.to_ms), x.rules)) (numbers_of (seen section.now)) result }
+    {
+        let slopes = Slopes::read(section)?;
+        let least = Least::read(section)?;
+        let weight = weight(section)?;
+        let dead_time_us = section.optional_number("dead_time_us", 1, MOST_DEAD_TIME_US)?;
+        let noise = Noise::read(section)?;
+        let rules = section.optional_number("rules", u64::from(RULES), u64::from(RULES))?;
+        Ok(Numbers {
+            slopes,
+            least,
+            weight,
+            dead_time_us,
+            noise,
+            rules: rules.unwrap_or(u64::from(RULES)) as u8,
+        })
+    }
 }
 
 impl Slopes {
