@@ -1,12 +1,14 @@
 -- How the fields of a table of a method's text are judged. The order of judging is the order of the lines that cite this file.
 use Rattle.std.specs.Prelude.{◌≡◌, ◌⊎◌, ℕ, ◌+◌, ◌++◌, nat_le, List, [], ◌∷◌, length, Bool, true, false, Option, Some, None, Result, Ok, Err, MatchResult, option_map, ok_or, is_some, codes, decimal, if◌then◌else◌}
+use Rattle.std.specs.Cmp.Lexicographic.{slice_cmp}
 use Rattle.std.specs.List.{list_any}
+use Rattle.std.specs.Ordering.{nat_cmp, is_lt}
 use Rattle.std.specs.Str.{bytes_eq}
 use Rattle.toml.specs.Data.{Data, Items, no_items, item, Members, no_members, member, get_member, as_array, as_table}
 use Rattle.cds_rules.specs.declared.error.MethodError.{MethodError}
 use Rattle.cds_rules.specs.declared.error.MethodError.TheVariants.{Missing, Unknown, Range, TooMany, NoMemory}
 
--- a table of the text: what stands before a field's name in its path, and the fields with their values, whose names stand in byte order
+-- a table of the text: what stands before a field's name in its path, and the fields with their values
 pub record Section : Type 0 where
   pub front : List ℕ
   pub fields : Members
@@ -49,14 +51,25 @@ unfoldable pub optional : {X : Type 0} → (Data → Option X) → List ℕ → 
 optional reads name s =
     if is_some (get_member name s.fields) then (required reads name s >>= λ x. Ok (Some x)) else Ok None
 
--- the first name in byte order that is none of these
-abbrev pub first_unknown : List (List ℕ) → Members → Option (List ℕ)
-first_unknown known no_members = None
-first_unknown known (member name d rest) = if list_any (bytes_eq name) known then first_unknown known rest else Some name
+-- the names of the fields that are none of these
+abbrev pub unknown_names : List (List ℕ) → Members → List (List ℕ)
+unknown_names known no_members = []
+unknown_names known (member name d rest) =
+    if list_any (bytes_eq name) known then unknown_names known rest else name ∷ unknown_names known rest
 
--- no field but these
+-- the name, or the other one where that comes before it in byte order
+abbrev pub lesser : List ℕ → Option (List ℕ) → List ℕ
+lesser name None = name
+lesser name (Some other) = if is_lt (slice_cmp nat_cmp other name) then other else name
+
+-- the least of some names in byte order
+abbrev pub least_name : List (List ℕ) → Option (List ℕ)
+least_name [] = None
+least_name (name ∷ names) = Some (lesser name (least_name names))
+
+-- no field but these: the least of the others in byte order is Unknown
 unfoldable pub only : List (List ℕ) → Section → Result (Unit {0}) MethodError
-only known s = unless (option_map (λ name. Unknown (s.front ++ name)) (first_unknown known s.fields))
+only known s = unless (option_map (λ name. Unknown (s.front ++ name)) (least_name (unknown_names known s.fields)))
 
 -- how many entries there are
 abbrev pub count_of : Items → ℕ

@@ -26,3 +26,6 @@ pub use limits::{
     MOST_R2_LIMIT, MOST_SLOPE, RULES,
 };
 pub use method::{Method, Weight};
+
+#[cfg(test)]
+mod tests;

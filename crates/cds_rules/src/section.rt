@@ -1,6 +1,6 @@
 //! A table of a method's text, and the judging of its fields one by one.
-ghost use Rattle.std.specs.Prelude.{◌≡◌, ◌≤◌, ◌++◌, ℕ, Some, option_map, string_bytes, IfOk, map, length, find, not, option_copied, is_some};
-ghost use Rattle.std.specs.BTreeMap.{keys};
+ghost use Rattle.std.specs.Prelude.{◌≡◌, ◌≤◌, ◌++◌, ℕ, Some, option_map, string_bytes, string_cmp, IfOk, map, length, find, not, option_copied, is_some};
+ghost use Rattle.std.specs.BTreeMap.{keys, IsOrdered};
 ghost use Rattle.std.specs.List.{list_any};
 ghost use Rattle.std.specs.Str.{bytes_eq};
 ghost use Rattle.toml.specs.Data.{get_member};
@@ -187,7 +187,7 @@ impl<'a> Section<'a> {
         Ok(array.as_slice())
     }
 
-    /// Refuses the first field whose name is none of these.
+    /// Refuses a field whose name is none of these, the least in byte order.
     #[tactic(auto, unfolding(crate::specs::Section::only))]
     pub(crate) fn only(&self, known: &[&str]) -> Result<(), MethodError>
         ensures { Gives (λ x. x) (only (map (λ k. k.now) known.now) (seen self.now)) result }
@@ -221,8 +221,10 @@ pub(crate) fn entry<'a>(
     })
 }
 
+/// The first key that is none of these; the keys of a table stand in byte order.
 fn first_unknown<'a>(table: &'a Table, known: &[&str]) -> Option<&'a String>
-    ensures { option_copied result ≡ find (λ name. not (list_any (λ word. bytes_eq (string_bytes name) word.now) known.now)) (keys table.now) }
+    ensures ordered { IsOrdered string_cmp table.now }
+    ensures found { option_copied result ≡ find (λ name. not (list_any (λ word. bytes_eq (string_bytes name) word.now) known.now)) (keys table.now) }
 {
     table.keys().find(|name| !is_among(name.as_str(), known))
 }
