@@ -6,14 +6,26 @@
 
 mod check;
 mod component;
+mod error;
 mod limits;
 mod method;
+mod read_check;
+mod read_component;
+mod read_event;
+mod read_method;
+mod read_numbers;
+mod section;
+mod values;
 
 pub use check::{Check, CheckKind, CheckList};
 pub use component::{Component, ComponentList};
+pub use error::MethodError;
 pub use limits::{
     LAST_TIME_MS, MOST_AREA, MOST_BUNCH, MOST_CHECKS, MOST_COMPONENTS, MOST_DEAD_TIME_US,
     MOST_EVENTS, MOST_FUSE, MOST_HEIGHT, MOST_LIMIT, MOST_METHOD_BYTES, MOST_PLATEAU,
     MOST_R2_LIMIT, MOST_SLOPE, RULES,
 };
 pub use method::{Method, Weight};
+
+#[cfg(test)]
+mod tests;

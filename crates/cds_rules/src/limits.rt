@@ -6,10 +6,10 @@ pub const MOST_BUNCH: u32 = 64;
 /// The greatest slope threshold, in counts per second.
 pub const MOST_SLOPE: u32 = 1_000_000_000;
 
-/// The most flat bunches that a peak may have at its top.
+/// The most flat bunches that a climb may pass over.
 pub const MOST_PLATEAU: u32 = 1_000;
 
-/// The most bunches over which neighbouring peaks are fused into one cluster.
+/// The most bunches that may lie between two peaks that are fused into one cluster.
 pub const MOST_FUSE: u32 = 1_000;
 
 /// The greatest least area, in count milliseconds.

@@ -28,9 +28,9 @@ pub struct Method {
     pub slope_on: u32,
     /// The slope below which a peak falls, 1 to 1,000,000,000 counts per second.
     pub slope_off: u32,
-    /// How many flat bunches end a climb, at most 1,000; 0 ends it at the first.
+    /// How many flat bunches a climb passes over before the next one ends it, at most 1,000.
     pub plateau: u32,
-    /// Over how many bunches neighbouring peaks are fused into one cluster, at most 1,000.
+    /// How many bunches may lie between two peaks that are fused into one cluster, at most 1,000.
     pub fuse: u32,
     /// The least area of a peak that is reported, in count milliseconds, at most 4,000,000,000,000,000.
     pub min_area: u64,
@@ -67,7 +67,7 @@ impl Method {
     ghost use Rattle.cds_rules.specs.declared.method.Weight.TheVariants.{Equal};
 
     /// The method of these four numbers, which has no components, events or checks, no dead time and no noise
-    /// window, reports every peak, fuses none over a gap, weights all points alike and follows the rules of
+    /// window, reports every peak, fuses only peaks that touch, weights all points alike and follows the rules of
     /// edition 1. It takes no memory.
     pub fn of_slopes(
         alloc: Global,

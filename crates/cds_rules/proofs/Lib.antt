@@ -1,0 +1,4 @@
+pub mod Unknown
+pub mod Entries
+pub mod Names
+pub mod Utf8
