@@ -3,3 +3,5 @@ pub mod NumberLaws
 pub mod LimitLaws
 pub mod RecordLaws
 pub mod TextLaws
+pub mod LineLaws
+pub mod WrittenLaws

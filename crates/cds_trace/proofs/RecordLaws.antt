@@ -29,7 +29,7 @@ next_record-shorter cfg s fields field (c ∷ rest) q e = at_byte (is_end (step 
     at_byte false h more = elim (more (rw h at e)) [ inl less ↦ inl (omega arith) | inr done ↦ inr done ]
 
 -- nothing is read behind the end of a text
-records_from-end : (cfg : Config) (n : ℕ) → records_from cfg n st.StartRecord [] ≡ []
+pub records_from-end : (cfg : Config) (n : ℕ) → records_from cfg n st.StartRecord [] ≡ []
 unfolding next_record records_from
 records_from-end cfg zero = refl
 records_from-end cfg (suc n) = refl
@@ -60,7 +60,7 @@ records_from-turns cfg (suc k) s xs =
     rw shift (records_from-suc cfg (k + (length xs + 1)) s xs (omega arith) ∙ records_from-turns cfg k s xs)
 
 -- the next record stands before those that are left behind it
-records_from-some : (cfg : Config) (s : State) (xs : List ℕ) (q : Read) → next_record cfg s [] [] xs ≡ Some q
+pub records_from-some : (cfg : Config) (s : State) (xs : List ℕ) (q : Read) → next_record cfg s [] [] xs ≡ Some q
     → records_from cfg (length xs + 1) s xs ≡ q.0 ∷ records_from cfg (length q.2 + 1) q.1 q.2
 unfolding records_from
 records_from-some cfg s xs q e =
@@ -72,7 +72,7 @@ records_from-some cfg s xs q e =
     ]))
 
 -- no next record: none is left
-records_from-none : (cfg : Config) (s : State) (xs : List ℕ) → next_record cfg s [] [] xs ≡ None → records_from cfg (length xs + 1) s xs ≡ []
+pub records_from-none : (cfg : Config) (s : State) (xs : List ℕ) → next_record cfg s [] [] xs ≡ None → records_from cfg (length xs + 1) s xs ≡ []
 unfolding records_from
 records_from-none cfg s xs e = rw (add-one, e) refl
 

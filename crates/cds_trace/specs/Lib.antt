@@ -8,3 +8,4 @@ pub mod GivenSamples
 pub mod Rows
 pub mod Refusal
 pub mod Period
+pub mod WrittenText

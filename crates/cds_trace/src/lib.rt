@@ -8,6 +8,7 @@ mod error;
 mod number;
 mod read;
 mod trace;
+mod write;
 
 pub use error::TraceError;
 pub use number::MOST_DIGITS;

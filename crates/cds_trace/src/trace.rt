@@ -101,6 +101,13 @@ impl Trace {
         self.period
     }
 
+    // The samples in the order of their times.
+    pub(crate) fn samples(&self) -> &[i32]
+        ensures { result.now ≡ self.now.samples }
+    {
+        self.samples.as_slice()
+    }
+
     /// The sample of index `i`, counted from 0, which is at the time `i` times the period. One step.
     pub fn at<L: Ledger>(&self, i: u32, steps: &mut Steps<L>) -> i32
         requires { i < length self.now.samples }
