@@ -17,7 +17,17 @@ use cds_trace::Trace;
 use std::alloc::Global;
 use std::sync::ledger::Ledger;
 
-/// The raw peaks of a trace under a method and the manual events of a row.
+/// The raw peaks of a trace under a method and the manual events of a row, which stand behind the method's events.
+///
+/// The samples are summed in bunches of the method. A bunch is up, down or flat by the difference to the sum two
+/// bunches further, under the slope thresholds in force at its time, and inhibited in the window of an inhibit
+/// event. A raw peak climbs from a bunch that is up until one is down, and falls until one isn't, or to the
+/// trace's last sample where the classes end. The climb is abandoned at an inhibited bunch and behind `plateau`
+/// flat ones in a row. What has its first greatest sample at an end of its range is left out, and not counted.
+///
+/// The answer is the list of the raw peaks in the order of their times, in samples from the start of the trace,
+/// or `TooMany` with their number, exactly where there are more than 500. Want of memory is the one other answer.
+/// At most 4 steps for each sample of the trace, whatever the answer is. The rules are this project's own.
 pub fn raw_peaks<L: Ledger>(
     alloc: Global,
     trace: &Trace,
@@ -122,3 +132,6 @@ fn keep<L: Ledger>(
     }
     Ok(())
 }
+
+#[cfg(test)]
+mod tests;
