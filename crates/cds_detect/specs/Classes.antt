@@ -1,5 +1,5 @@
 -- The classes of a trace: whether its bunched signal rises, falls or is flat. This project's own rule.
-use Rattle.std.specs.Prelude.{ℕ, ◌+◌, ◌-◌, ◌*◌, ◌/◌, Bool, ℤ, pos, ◌-ℤ◌, ◌*ℤ◌, int_le, List, ◌++◌, map, length, if◌then◌else◌}
+use Rattle.std.specs.Prelude.{ℕ, ◌+◌, ◌-◌, ◌*◌, ◌/◌, Bool, ℤ, pos, ◌-ℤ◌, ◌*ℤ◌, int_le, List, map, length, if◌then◌else◌}
 use Rattle.std.specs.List.{range_with_len}
 use Rattle.cds_base.specs.declared.event.Event.{Event}
 use Rattle.cds_trace.specs.Signal.{Signal, sum_between}
