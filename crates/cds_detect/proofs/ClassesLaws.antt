@@ -1,5 +1,5 @@
 -- The list of classes, by its indices.
-use Rattle.std.proofs.Common.{◌≡◌, ℕ, ◌+◌, ◌*◌, ◌/◌, ◌<◌, ◌≤◌, false, List, ◌++◌, ℤ, length, refl, arith, sym}
+use Rattle.std.proofs.Common.{◌≡◌, ℕ, ◌+◌, ◌*◌, ◌<◌, ◌≤◌, false, List, ◌++◌, ℤ, length, arith, sym}
 use Rattle.std.proofs.lemmas.List.FromFn.{length-map-range_with_len, get_or-map-range_with_len}
 use Rattle.cds_trace.specs.Signal.{Signal}
 use Rattle.cds_detect.specs.declared.class.Class.TheVariants.{Flat}

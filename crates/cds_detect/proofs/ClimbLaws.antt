@@ -1,5 +1,5 @@
 -- How a climb goes on, by the flat classes in a row.
-use Rattle.std.proofs.Common.{not, length, subst, ◌≡◌, ℕ, zero, suc, ◌+◌, ◌<◌, ◌≤◌, Bool, true, false, cond, ◌&&◌, ◌||◌, List, Option, Some, None, MatchOption, nat_lt, nat_le, refl, arith, ap, sym, ◌∙◌, inl, inr, add-one}
+use Rattle.std.proofs.Common.{length, ◌≡◌, ℕ, zero, suc, ◌+◌, ◌<◌, Bool, true, false, cond, ◌&&◌, ◌||◌, List, Some, None, MatchOption, nat_lt, nat_le, refl, arith, ap, sym, ◌∙◌, inl, inr, add-one}
 use Rattle.std.proofs.lemmas.Bool.Decides.{nat_tests}
 use Rattle.std.proofs.lemmas.Bool.{lt-ltb, le-ltb, le-leb, lt-leb, cases_lt}
 use Rattle.cds_detect.specs.declared.class.Class.{Class}

@@ -1,5 +1,5 @@
 -- How a search for the least number goes on, and within which bounds it ends.
-use Rattle.std.proofs.Common.{◌≡◌, ℕ, zero, suc, ◌+◌, ◌-◌, ◌<◌, ◌≤◌, Bool, true, false, cond, Option, Some, None, refl, arith, unwrap_or, ap}
+use Rattle.std.proofs.Common.{◌≡◌, ℕ, zero, suc, ◌+◌, ◌-◌, ◌<◌, ◌≤◌, Bool, true, false, cond, Some, refl, arith, unwrap_or}
 use Rattle.std.specs.List.{range_with_len, find}
 use Rattle.cds_detect.specs.Least.{least}
 

@@ -1,7 +1,6 @@
 -- The definitions on small traces, worked out by hand.
 use Rattle.std.proofs.Common.{◌≡◌, List, [], ◌∷◌, pos, refl}
-use Rattle.cds_detect.specs.declared.class.Class.TheVariants.{Inhibited, Up, Down, Flat}
-use Rattle.cds_detect.specs.declared.slopes.Slopes.{Slopes}
+use Rattle.cds_detect.specs.declared.class.Class.TheVariants.{Up, Down, Flat}
 use Rattle.cds_base.specs.declared.event.Event.{Event}
 use Rattle.cds_base.specs.declared.event.Event.TheVariants.{Inhibit, Slope}
 use Rattle.cds_trace.specs.Signal.{Signal}

@@ -1,12 +1,11 @@
 -- How the search for peaks goes on in a list of classes.
-use Rattle.std.proofs.Common.{◌≡◌, ℕ, zero, suc, ◌+◌, ◌-◌, ◌<◌, ◌≤◌, Bool, true, false, cond, not, List, [], ◌∷◌, ◌++◌, length, refl, arith, ap, sym, ◌∙◌, inl, inr}
+use Rattle.std.proofs.Common.{◌≡◌, ℕ, zero, suc, ◌+◌, ◌-◌, ◌<◌, ◌≤◌, true, false, List, [], ◌∷◌, ◌++◌, length, refl, arith, ap, sym, ◌∙◌, inl, inr}
 use Rattle.std.proofs.lemmas.Bool.{cases_lt, cond_both}
 use Rattle.std.proofs.lemmas.List.{get_or_past, length-append}
 use Rattle.cds_detect.specs.declared.class.Class.{Class}
-use Rattle.cds_detect.specs.declared.class.Class.TheVariants.{Inhibited, Up, Down, Flat}
-use Rattle.cds_detect.specs.Least.{least}
-use Rattle.cds_detect.specs.Spans.{Span, is_up, is_down, is_flat, class_at, ends_climb, ends_fall, next_up, climb, fall, span_from, behind, spans_from, later_spans, spans}
-use Rattle.cds_detect.proofs.LeastLaws.{least-skip, least-here, least-end, least-low, least-high}
+use Rattle.cds_detect.specs.declared.class.Class.TheVariants.{Flat}
+use Rattle.cds_detect.specs.Spans.{Span, is_down, class_at, ends_climb, ends_fall, next_up, climb, fall, span_from, behind, spans_from, later_spans, spans}
+use Rattle.cds_detect.proofs.LeastLaws.{least-end, least-low, least-high}
 
 -- behind the last class there is none but flat ones
 pub class_at-past : (cs : List Class) (k : ℕ) → length cs ≤ k → class_at cs k ≡ Flat

@@ -1,17 +1,16 @@
 -- Raw peaks stand one after the other within the trace.
-use Rattle.std.proofs.Common.{◌≡◌, ℕ, zero, suc, ◌+◌, ◌*◌, ◌<◌, ◌≤◌, Bool, true, false, cond, nat_le, List, [], ◌∷◌, ◌++◌, map, length, refl, arith, ap, sym, ◌∙◌, inl, inr, append-nil}
+use Rattle.std.proofs.Common.{◌≡◌, ℕ, zero, suc, ◌+◌, ◌*◌, ◌<◌, ◌≤◌, nat_le, List, [], ◌∷◌, ◌++◌, map, length, refl, arith, sym, ◌∙◌, inl, inr, append-nil}
 use Rattle.std.proofs.lemmas.List.{length-map}
 use Rattle.std.specs.List.{filter}
 use Rattle.std.proofs.lemmas.Bool.{cases_lt, cases_Bool, cond_both, and_parts, ltb-true}
 use Rattle.cds_base.specs.declared.peak.RawPeak.{RawPeak}
 use Rattle.cds_trace.specs.Signal.{Signal}
 use Rattle.cds_detect.specs.Classes.{Settings, class_count, classes}
-use Rattle.cds_detect.specs.Spans.{Span, is_down, class_at, next_up, climb, fall, span_from, behind, spans_from, later_spans, spans}
-use Rattle.cds_detect.specs.declared.raw.Raw.{Raw}
+use Rattle.cds_detect.specs.Spans.{Span, is_down, class_at, next_up, climb, fall, spans_from, later_spans, spans}
 use Rattle.cds_detect.specs.declared.raw.Raw.TheVariants as variant
 use Rattle.cds_detect.specs.declared.raw.TheConstants.{MOST_RAW_PEAKS}
-use Rattle.cds_detect.specs.Raw.{end_sample, peak_of, is_peak, peaks_of, raw_peaks_of, answer_of, peaks_in, IsRawPeak, StandFrom}
-use Rattle.cds_detect.proofs.LeastLaws.{least-low, least-high}
+use Rattle.cds_detect.specs.Raw.{end_sample, peak_of, is_peak, peaks_of, raw_peaks_of, answer_of, peaks_in, StandFrom}
+use Rattle.cds_detect.proofs.LeastLaws.{least-low}
 use Rattle.cds_detect.proofs.SpansLaws.{climb-low, climb-high, fall-low, fall-high, spans_from-past, span_from-past, behind-past, length-spans_from, later_spans-end}
 use Rattle.cds_detect.proofs.ClassesLaws.{length-classes}
 use Rattle.cds_detect.proofs.PlaceLaws.{end_sample-behind, end_sample-within}

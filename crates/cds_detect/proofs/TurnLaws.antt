@@ -1,5 +1,5 @@
 -- How the list of raw peaks grows as the search for them goes on.
-use Rattle.std.proofs.Common.{◌≡◌, ℕ, zero, suc, ◌+◌, ◌-◌, ◌*◌, ◌<◌, ◌≤◌, Bool, true, false, cond, List, [], ◌∷◌, ◌++◌, map, length, refl, arith, ap, sym, ◌∙◌, subst, inl, inr, append_assoc}
+use Rattle.std.proofs.Common.{◌≡◌, ℕ, ◌*◌, ◌<◌, ◌≤◌, true, false, List, [], ◌∷◌, ◌++◌, length, refl, arith, ap, sym, ◌∙◌, inl, inr, append_assoc}
 use Rattle.std.specs.List.{filter}
 use Rattle.std.proofs.Math.Nat.{mul-le-mul_right}
 use Rattle.std.proofs.lemmas.Bool.{cases_lt, cases_Bool}
@@ -10,7 +10,7 @@ use Rattle.cds_detect.specs.Classes.{Settings, class_count, classes}
 use Rattle.cds_detect.specs.Spans.{Span, is_down, class_at, next_up, climb, fall, later_spans}
 use Rattle.cds_detect.specs.Raw.{end_sample, peak_between, peak_of, is_peak, peaks_of}
 use Rattle.cds_detect.proofs.LeastLaws.{least-low}
-use Rattle.cds_detect.proofs.SpansLaws.{climb-low, down-before, fall-low, fall-high, later_spans-end, later_spans-none, later_spans-abandoned, later_spans-peak}
+use Rattle.cds_detect.proofs.SpansLaws.{climb-low, down-before, fall-low, later_spans-end, later_spans-none, later_spans-abandoned, later_spans-peak}
 use Rattle.cds_detect.proofs.ClassesLaws.{length-classes}
 use Rattle.cds_detect.proofs.PlaceLaws.{end_sample-class, end_sample-behind}
 

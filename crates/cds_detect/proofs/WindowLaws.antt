@@ -1,10 +1,10 @@
 -- Where the scan stands.
-use Rattle.std.proofs.Common.{◌≡◌, ℕ, ◌+◌, ◌<◌, ◌≤◌, length, arith, ◌∙◌, sym}
+use Rattle.std.proofs.Common.{◌≡◌, ◌+◌, ◌<◌, length, arith, ◌∙◌, sym}
 use Rattle.cds_trace.specs.Signal.{Signal}
 use Rattle.cds_detect.specs.declared.class.Class.TheVariants.{Flat}
 use Rattle.cds_detect.specs.declared.scan.Window.{Window}
 use Rattle.cds_detect.specs.Bunches.{IsBunchSum}
-use Rattle.cds_detect.specs.Classes.{Settings, class_count, class_of, classes, bunch_sum}
+use Rattle.cds_detect.specs.Classes.{Settings, class_count, class_of, bunch_sum}
 use Rattle.cds_detect.specs.Windows.{Stands}
 use Rattle.cds_detect.proofs.ClassesLaws.{class_at-classes, class_at-classes_past}
 

@@ -1,7 +1,8 @@
 -- The range of a bunch's sum.
-use Rattle.std.specs.Prelude.{ℤ, pos, neg_ℤ, ◌≤ℤ◌}
+use Rattle.std.specs.Prelude.{ℤ, neg_ℤ, ◌≤ℤ◌}
+use Rattle.cds_detect.specs.declared.bunch.TheConstants.{GREATEST_BUNCH_SUM}
 
--- a sum of at most 64 samples, each from -100,000,000 to 100,000,000
+-- the sum of as many samples as a bunch may have, each in the range of a sample
 pub record IsBunchSum (sum : ℤ) : Type 0 where
-  pub least : neg_ℤ (pos 6400000000) ≤ℤ sum
-  pub greatest : sum ≤ℤ pos 6400000000
+  pub least : neg_ℤ GREATEST_BUNCH_SUM ≤ℤ sum
+  pub greatest : sum ≤ℤ GREATEST_BUNCH_SUM

@@ -1,5 +1,5 @@
 -- The classes of a trace: whether its bunched signal rises, falls or is flat. This project's own rule.
-use Rattle.std.specs.Prelude.{ℕ, ◌+◌, ◌-◌, ◌*◌, ◌/◌, Bool, ℤ, pos, ◌-ℤ◌, ◌*ℤ◌, int_le, List, ◌++◌, map, length, if◌then◌else◌}
+use Rattle.std.specs.Prelude.{ℕ, ◌+◌, ◌-◌, ◌*◌, ◌/◌, Bool, ℤ, pos, ◌-ℤ◌, ◌*ℤ◌, int_le, List, map, length, if◌then◌else◌}
 use Rattle.std.specs.List.{range_with_len}
 use Rattle.cds_base.specs.declared.event.Event.{Event}
 use Rattle.cds_trace.specs.Signal.{Signal, sum_between}
@@ -8,11 +8,15 @@ use Rattle.cds_detect.specs.declared.class.Class.TheVariants.{Inhibited, Up, Dow
 use Rattle.cds_detect.specs.declared.slopes.Slopes.{Slopes}
 use Rattle.cds_detect.specs.Slopes.{is_inhibited, slopes_at}
 
--- by what peaks are found: samples a bunch, the thresholds in counts per second, the flat classes that end a climb, and the events in their order
+-- by what peaks are found
 pub record Settings : Type 0 where
+  -- how many samples make a bunch
   pub bunch : ℕ
+  -- the method's own slope thresholds
   pub own : Slopes
+  -- how many flat classes in a row end a climb
   pub plateau : ℕ
+  -- the events of the method and then those of the row
   pub events : List Event
 
 -- the sum of the samples of bunch j

@@ -4,6 +4,6 @@ pub mod Bunches
 pub mod Classes
 pub mod Settings
 pub mod Spans
+pub mod Raw
 pub mod Climbs
 pub mod Windows
-pub mod Raw

@@ -6,8 +6,11 @@ ghost use Rattle.cds_detect.specs.Settings.{settings_of};
 
 use crate::slopes::{Slopes, is_inhibited, slopes_at};
 use cds_base::Event;
-use cds_rules::Method;
-use cds_trace::Trace;
+use cds_rules::{MOST_BUNCH, Method};
+use cds_trace::{LAST_TIME_US, Trace};
+
+/// Slopes are in counts per second, and times in microseconds.
+const MICROSECONDS_PER_SECOND: u128 = 1_000_000;
 
 /// Whether the signal rises over two bunches, falls, does neither, or no peak may be there.
 #[derive(Clone, Copy, Debug)]
@@ -23,12 +26,14 @@ pub(crate) enum Class {
 }
 
 impl Class {
+    /// Whether a climb may begin here.
     pub(crate) fn is_up(self) -> bool
         ensures { result ≡ is_up self }
     {
         matches!(self, Class::Up)
     }
 
+    /// Whether the signal falls here.
     pub(crate) fn is_down(self) -> bool
         ensures { result ≡ is_down self }
     {
@@ -62,9 +67,10 @@ pub(crate) fn class_of(
     class_between(slopes, method.bunch, period, near, far)
 }
 
+/// The class under these thresholds of a bunch whose sum is `near`, and which is `far` two bunches further.
 fn class_between(slopes: Slopes, bunch: u32, period: u64, near: i64, far: i64) -> Class
-    requires bunch { bunch ≤ 64 }
-    requires period { period ≤ 14400000000 }
+    requires bunch { bunch ≤ MOST_BUNCH }
+    requires period { period ≤ LAST_TIME_US }
     requires near_range { IsBunchSum near }
     requires far_range { IsBunchSum far }
     ensures { result ≡ class_between slopes bunch period near far }
@@ -79,11 +85,13 @@ fn class_between(slopes: Slopes, bunch: u32, period: u64, near: i64, far: i64) -
     }
 }
 
+/// Whether the sum of a bunch rises by at least the slope, in counts per second, from `low` to `high` two bunches
+/// further; `weight` is twice the bunch, times the bunch, times the period.
 fn is_steep(slope: u32, weight: u64, low: i64, high: i64) -> bool
     requires low_range { IsBunchSum low }
     requires high_range { IsBunchSum high }
     ensures { result ≡ is_steep slope weight low high }
 {
     let needed = u128::from(slope) * u128::from(weight);
-    high >= low && u128::from((high - low) as u64) * 1_000_000 >= needed
+    high >= low && u128::from((high - low) as u64) * MICROSECONDS_PER_SECOND >= needed
 }

@@ -1,11 +1,10 @@
-ghost use Rattle.std.specs.Prelude.{◌≡◌, ◌+◌, ◌-◌, ◌*◌, ◌<◌, ◌≤◌, ◌++◌, ◌∷◌, ◌^◌, [], length, vec_len, IfOk, OnOk};
+ghost use Rattle.std.specs.Prelude.{◌≡◌, ◌+◌, ◌*◌, ◌<◌, ◌≤◌, ◌++◌, ◌∷◌, ◌^◌, [], length, vec_len, IfOk, OnOk};
 ghost use Rattle.std.specs.List.{filter};
 ghost use Rattle.cds_trace.specs.Signal.{IsTrace};
-ghost use Rattle.cds_detect.specs.Classes.{class_count, classes};
+ghost use Rattle.cds_detect.specs.Classes.{class_count};
 ghost use Rattle.cds_detect.specs.Settings.{settings_of};
-ghost use Rattle.cds_detect.specs.Spans.{later_spans};
-ghost use Rattle.cds_detect.specs.Windows.{Stands};
-ghost use Rattle.cds_detect.specs.Raw.{end_sample, peak_between, is_peak, peaks_of, raw_peaks_of, answer_of, peaks_in, StandFrom};
+ghost use Rattle.cds_detect.specs.Windows.{Stands, peaks_with, cost_to, whole_cost};
+ghost use Rattle.cds_detect.specs.Raw.{end_sample, peak_between, is_peak, raw_peaks_of, answer_of, peaks_in, StandFrom};
 
 use crate::apex::first_greatest;
 use crate::bunch::class_count;
@@ -17,7 +16,17 @@ use cds_trace::Trace;
 use std::alloc::Global;
 use std::sync::ledger::Ledger;
 
-/// The raw peaks of a trace under a method and the manual events of a row.
+/// The raw peaks of a trace under a method and the manual events of a row, which stand behind the method's events.
+///
+/// The samples are summed in bunches of the method. A bunch is up, down or flat by the difference to the sum two
+/// bunches further, under the slope thresholds in force at its time, and inhibited in the window of an inhibit
+/// event. A raw peak climbs from a bunch that is up until one is down, and falls until one isn't, or to the
+/// trace's last sample where the classes end. The climb is abandoned at an inhibited bunch and behind `plateau`
+/// flat ones in a row. What has its first greatest sample at an end of its range is left out, and not counted.
+///
+/// The answer is the list of the raw peaks in the order of their times, in samples from the start of the trace,
+/// or `TooMany` with their number, exactly where there are more than 500. Want of memory is the one other answer.
+/// At most 4 steps for each sample of the trace, whatever the answer is. The rules are this project's own.
 pub fn raw_peaks<L: Ledger>(
     alloc: Global,
     trace: &Trace,
@@ -25,7 +34,8 @@ pub fn raw_peaks<L: Ledger>(
     manual: &[Event],
     steps: &mut Steps<L>,
 ) -> Result<Raw, NoMemory>
-    ensures value { IfOk result (λ raw. raw ≡ answer_of (raw_peaks_of trace.now (settings_of method.now manual.now))) }
+    ensures value { IfOk result (λ raw.
+        raw ≡ answer_of (raw_peaks_of trace.now (settings_of method.now manual.now))) }
     ensures stand { IfOk result (λ raw. StandFrom trace.now 0 (peaks_in raw)) }
     ensures few { IfOk result (λ raw. length (peaks_in raw) ≤ MOST_RAW_PEAKS) }
     ensures counted { steps.new ≤ steps.old + 4 * length trace.now.samples }
@@ -65,9 +75,13 @@ fn turn<L: Ledger>(
     requires stands { Stands trace.now (settings_of method.now manual.now) window }
     ensures on { IfOk result (λ w. window.at < w.at) }
     ensures stands { IfOk result (λ w. Stands trace.now (settings_of method.now manual.now) w) }
-    ensures found { IfOk result (λ w. let cs = classes trace.now (settings_of method.now manual.now) in found.new.items ++ peaks_of trace.now method.now.bunch (later_spans cs method.now.plateau w.at) ≡ found.old.items ++ peaks_of trace.now method.now.bunch (later_spans cs method.now.plateau window.at)) }
-    ensures counted { IfOk result (λ w. (steps.new + 2 * window.at) + 2 * end_sample trace.now method.now.bunch window.at ≤ (steps.old + 2 * w.at) + 2 * end_sample trace.now method.now.bunch w.at) }
-    ensures bounded { (steps.new + 2 * window.at) + 2 * end_sample trace.now method.now.bunch window.at ≤ (steps.old + 2 * class_count (length trace.now.samples) method.now.bunch) + 2 * (length trace.now.samples - 1) }
+    ensures found { let settings = settings_of method.now manual.now in
+        IfOk result (λ w. peaks_with trace.now settings found.new.items w.at
+        ≡ peaks_with trace.now settings found.old.items window.at) }
+    ensures counted { IfOk result (λ w. steps.new + cost_to trace.now method.now.bunch window.at
+        ≤ steps.old + cost_to trace.now method.now.bunch w.at) }
+    ensures bounded { steps.new + cost_to trace.now method.now.bunch window.at
+        ≤ steps.old + whole_cost trace.now method.now.bunch }
 {
     let start = find_up(trace, method, manual, window, steps);
     if start.at >= class_count(trace.len(), method.bunch) {
@@ -109,7 +123,8 @@ fn keep<L: Ledger>(
     requires trace { IsTrace trace.now }
     requires order { from ≤ to }
     requires end { to < length trace.now.samples }
-    ensures found { OnOk result (found.new.items ≡ found.old.items ++ filter is_peak (peak_between trace.now from to ∷ [])) }
+    ensures found { OnOk result
+        (found.new.items ≡ found.old.items ++ filter is_peak (peak_between trace.now from to ∷ [])) }
     ensures counted { steps.new + from ≡ steps.old + to + 1 }
 {
     let apex = first_greatest(trace, from, to, steps);
@@ -122,3 +137,6 @@ fn keep<L: Ledger>(
     }
     Ok(())
 }
+
+#[cfg(test)]
+mod tests;

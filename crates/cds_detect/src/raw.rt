@@ -3,7 +3,7 @@ ghost use Rattle.std.specs.Prelude.{◌≡◌};
 use cds_base::RawPeak;
 use std::marker::Model;
 
-/// The most raw peaks of a row; with more it has no list.
+/// The most raw peaks of a row: a row with more has no list of them. This project's own limit.
 pub const MOST_RAW_PEAKS: usize = 500;
 
 /// The raw peaks of a trace, in the order of their times. Seen as a list.

@@ -96,7 +96,8 @@ pub(crate) fn find_up<L: Ledger>(
     steps: &mut Steps<L>,
 ) -> Window
     requires { Stands trace.now (settings_of method.now manual.now) window }
-    ensures place { result.at ≡ next_up (classes trace.now (settings_of method.now manual.now)) window.at }
+    ensures place { let cs = classes trace.now (settings_of method.now manual.now) in
+        result.at ≡ next_up cs window.at }
     ensures stands { Stands trace.now (settings_of method.now manual.now) result }
     ensures counted { steps.new + 2 * window.at ≤ steps.old + 2 * result.at }
 {
@@ -117,7 +118,8 @@ pub(crate) fn climb<L: Ledger>(
 ) -> Window
     requires here { start.at < class_count (length trace.now.samples) method.now.bunch }
     requires stands { Stands trace.now (settings_of method.now manual.now) start }
-    ensures place { result.at ≡ climb (classes trace.now (settings_of method.now manual.now)) method.now.plateau start.at }
+    ensures place { let cs = classes trace.now (settings_of method.now manual.now) in
+        result.at ≡ climb cs method.now.plateau start.at }
     ensures stands { Stands trace.now (settings_of method.now manual.now) result }
     ensures counted { steps.new + 2 * start.at ≤ steps.old + 2 * result.at }
 {
@@ -156,7 +158,8 @@ pub(crate) fn fall<L: Ledger>(
 ) -> Window
     requires here { start.at < class_count (length trace.now.samples) method.now.bunch }
     requires stands { Stands trace.now (settings_of method.now manual.now) start }
-    ensures place { result.at ≡ fall (classes trace.now (settings_of method.now manual.now)) start.at }
+    ensures place { let cs = classes trace.now (settings_of method.now manual.now) in
+        result.at ≡ fall cs start.at }
     ensures stands { Stands trace.now (settings_of method.now manual.now) result }
     ensures counted { steps.new + 2 * start.at ≤ steps.old + 2 * result.at }
 {

@@ -5,6 +5,9 @@ ghost use Rattle.cds_detect.specs.Settings.{settings_of};
 use cds_base::Event;
 use cds_rules::Method;
 
+/// The times of events are in milliseconds, those of samples in microseconds.
+const MICROSECONDS_PER_MILLISECOND: u64 = 1000;
+
 /// Slope thresholds in counts per second, and the time in milliseconds from which on they are in force.
 #[derive(Clone, Copy, Debug)]
 pub(crate) struct Slopes {
@@ -20,12 +23,14 @@ pub(crate) fn is_inhibited(events: &[Event], time: u64) -> bool
     events.iter().any(|event| inhibits(*event, time))
 }
 
+/// Whether the event forbids peaks at the time, in microseconds; its window doesn't have its end.
 fn inhibits(event: Event, time: u64) -> bool
     ensures { result ≡ inhibits time event }
 {
     match event {
         Event::Inhibit { from, to } => {
-            1000 * u64::from(from) <= time && time < 1000 * u64::from(to)
+            MICROSECONDS_PER_MILLISECOND * u64::from(from) <= time
+                && time < MICROSECONDS_PER_MILLISECOND * u64::from(to)
         }
         _ => false,
     }
@@ -62,11 +67,12 @@ fn in_force(events: &[Event], time: u64) -> Option<Slopes>
     latest
 }
 
+/// The thresholds that the event sets at the time, in microseconds, where it is a slope event not after it.
 fn slopes_set(event: Event, time: u64) -> Option<Slopes>
     ensures { result ≡ slopes_set time event }
 {
     match event {
-        Event::Slope { at, on, off } if 1000 * u64::from(at) <= time => {
+        Event::Slope { at, on, off } if MICROSECONDS_PER_MILLISECOND * u64::from(at) <= time => {
             Some(Slopes { at, on, off })
         }
         _ => None,

@@ -1,5 +1,4 @@
-use Rattle.std.proofs.Common.{◌≡◌, arith, sym}
-use Rattle.std.proofs.lemmas.Int.{ints, to_z-of_z}
+use Rattle.std.proofs.Common.{arith, sym}
 use Rattle.cds_detect.proofs.ApexLaws.{first_greatest-is}
 use Rattle.cds_detect.proofs.apex.first_greatest.Goals as goal
 

@@ -1,4 +1,4 @@
-use Rattle.std.proofs.Common.{◌≡◌, ◌*◌, false, refl, ap}
+use Rattle.std.proofs.Common.{◌≡◌, ◌*◌, false, refl}
 use Rattle.std.proofs.lemmas.Int.{to_z-of_z}
 use Rattle.cds_detect.specs.Settings.{settings_of}
 use Rattle.cds_detect.specs.Slopes.{is_inhibited}

@@ -1,8 +1,8 @@
-use Rattle.std.proofs.Common.{◌≡◌, ◌+◌, ◌*◌, ◌<◌, ◌≤◌, ◌++◌, length, arith, refl, ap, sym, ◌∙◌, subst}
+use Rattle.std.proofs.Common.{◌≡◌, ◌≤◌, length, arith, ap, ◌∙◌}
 use Rattle.std.proofs.Math.Nat.{div-le_self}
 use Rattle.cds_detect.specs.Classes.{class_count, classes}
 use Rattle.cds_detect.specs.Settings.{settings_of}
-use Rattle.cds_detect.specs.Raw.{raw_peaks_of, answer_of, peaks_in, peaks_of, StandFrom}
+use Rattle.cds_detect.specs.Raw.{raw_peaks_of, answer_of, peaks_of}
 use Rattle.cds_detect.proofs.SpansLaws.{later_spans-zero}
 use Rattle.cds_detect.proofs.StandLaws.{all-found, length-raw_peaks_of, stand-raw_peaks_of, stand-answer_of}
 use Rattle.cds_detect.proofs.detect.raw_peaks.Goals as goal

@@ -1,4 +1,4 @@
-use Rattle.std.proofs.Common.{◌≡◌, ◌+◌, ◌*◌, ◌<◌, ◌≤◌, ◌++◌, length, arith, refl, ap, sym, ◌∙◌}
+use Rattle.std.proofs.Common.{◌+◌, ◌*◌, ◌<◌, ◌≤◌, ◌++◌, length, arith, refl, ap}
 use Rattle.cds_detect.specs.Classes.{class_count}
 use Rattle.cds_detect.specs.Settings.{settings_of}
 use Rattle.cds_detect.specs.Raw.{end_sample}

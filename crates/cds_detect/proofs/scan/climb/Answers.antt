@@ -1,10 +1,10 @@
-use Rattle.std.proofs.Common.{◌≡◌, ◌≤◌, ◌+◌, ◌<◌, length, arith, ap, sym, ◌∙◌, refl}
+use Rattle.std.proofs.Common.{◌≡◌, ◌≤◌, length, arith, ap, sym, ◌∙◌, refl}
 use Rattle.cds_detect.specs.Classes.{classes, class_count}
 use Rattle.cds_detect.specs.Settings.{settings_of}
-use Rattle.cds_detect.specs.Spans.{class_at, ends_climb}
+use Rattle.cds_detect.specs.Spans.{ends_climb}
 use Rattle.cds_detect.proofs.ClassesLaws.{length-classes}
 use Rattle.cds_detect.proofs.LeastLaws.{least-end}
-use Rattle.cds_detect.proofs.ClimbLaws.{climb-on, climb-ends, flat_run, flat_run-start}
+use Rattle.cds_detect.proofs.ClimbLaws.{climb-on, climb-ends, flat_run-start}
 use Rattle.cds_detect.proofs.scan.climb.Goals as goal
 
 pub loop-window-init : goal.loop-window-init

@@ -1,4 +1,4 @@
-use Rattle.std.proofs.Common.{◌≡◌, ◌+◌, ◌<◌, length, arith, ap, sym, ◌∙◌, refl}
+use Rattle.std.proofs.Common.{◌≡◌, length, arith, ap, sym, ◌∙◌}
 use Rattle.cds_detect.specs.Classes.{classes, class_count}
 use Rattle.cds_detect.specs.Settings.{settings_of}
 use Rattle.cds_detect.proofs.ClassesLaws.{length-classes}

@@ -1,4 +1,4 @@
-use Rattle.std.proofs.Common.{◌≡◌, ◌+◌, ◌-◌, ◌*◌, ◌≤◌, not, length}
+use Rattle.std.proofs.Common.{◌≡◌, ◌+◌, ◌-◌, ◌*◌, ◌≤◌, length}
 use Rattle.cds_detect.specs.Least.{least}
 use Rattle.cds_detect.specs.Classes.{classes}
 use Rattle.cds_detect.specs.Settings.{settings_of}

@@ -1,8 +1,7 @@
-use Rattle.std.proofs.Common.{◌≡◌, ◌+◌, ◌-◌, ◌*◌, ◌≤◌, not, length}
-use Rattle.cds_detect.specs.Least.{least}
+use Rattle.std.proofs.Common.{◌≡◌, ◌+◌, ◌-◌, ◌*◌, ◌≤◌}
 use Rattle.cds_detect.specs.Classes.{classes}
 use Rattle.cds_detect.specs.Settings.{settings_of}
-use Rattle.cds_detect.specs.Spans.{class_at, next_up, fall, is_down}
+use Rattle.cds_detect.specs.Spans.{next_up}
 use Rattle.cds_detect.specs.Windows.{Stands}
 use Rattle.cds_detect.proofs.scan.find_up.Given as goal
 

@@ -1,5 +1,5 @@
-use Rattle.std.proofs.Common.{◌≡◌, ◌+◌, ◌<◌, length, arith, ap}
-use Rattle.std.proofs.lemmas.Int.{ints, to_z-of_z}
+use Rattle.std.proofs.Common.{◌<◌, length, arith, ap}
+use Rattle.std.proofs.lemmas.Int.{to_z-of_z}
 use Rattle.cds_detect.specs.Classes.{class_count}
 use Rattle.cds_detect.specs.Settings.{settings_of}
 use Rattle.cds_detect.proofs.WindowLaws.{stands-here}
