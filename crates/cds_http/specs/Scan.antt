@@ -10,6 +10,8 @@ use Rattle.cds_http.specs.declared.lines.Seen.TheVariants.{Open, Crowded, Ended}
 use Rattle.cds_http.specs.declared.lines.Step.{Step}
 use Rattle.cds_http.specs.declared.lines.Step.TheVariants as step
 use Rattle.cds_http.specs.declared.head.Head.{Head}
+use Rattle.cds_http.specs.declared.fields.Values.{Values}
+use Rattle.cds_http.specs.declared.fields.Values.TheVariants.{Absent, One, Several}
 use Rattle.cds_http.specs.declared.next.Fault.{Fault}
 use Rattle.cds_http.specs.declared.next.Next.{Next}
 use Rattle.cds_http.specs.declared.next.Next.TheVariants as next
@@ -84,3 +86,9 @@ StandsFor (Ok head) front = (size : ℕ) × (h : RequestHead) × (body : ℕ) ×
 abbrev pub JudgesHead : ℕ → List ℕ → Result Head Fault → Type 0
 JudgesHead place bytes result =
     (read : Option RequestHead) × ReadsHead bytes read × StandsFor result (judged place (length bytes) read)
+
+-- as many of the values as the length of a body asks for
+abbrev pub AreValues : Values → List (List ℕ) → Type 0
+AreValues Absent values = values ≡ []
+AreValues (One value) values = values ≡ value.now ∷ []
+AreValues Several values = 1 < length values
