@@ -3,13 +3,10 @@ use Rattle.std.proofs.Common.{◌≡◌, ℕ, ◌+◌, ◌*◌, ◌^◌, ◌<◌
 use Rattle.std.specs.List.{list_all}
 use Rattle.std.specs.Char.{is_ascii_digit, digit_value}
 use Rattle.std.specs.Str.Parse.{digits_value, AllDigits}
+use Rattle.std.proofs.lemmas.Bool.{and_parts}
 use Rattle.std.proofs.lemmas.Bool.Decides.{nat_tests}
 use Rattle.std.proofs.lemmas.Int.Digits.{digits_value-lt}
 use Rattle.std.proofs.Math.Nat.{pow-le-pow_right}
-
-pub both_hold : (a b : Bool) → a && b ≡ true → (a ≡ true) × (b ≡ true)
-both_hold true b h = (refl, h)
-both_hold false b h = (h, absurd (cc))
 
 digit_below_ten : (c : ℕ) → is_ascii_digit c ≡ true → digit_value c < 10
 digit_below_ten c digit = grind (arith, nat_tests)
@@ -20,7 +17,7 @@ value_of_digit c digit = (grind (arith, nat_tests), grind (arith, nat_tests), gr
 all_digits : (cs : List ℕ) → list_all is_ascii_digit cs ≡ true → AllDigits 10 cs
 all_digits [] all = tt
 all_digits (c ∷ cs) all =
-    let both = both_hold (is_ascii_digit c) (list_all is_ascii_digit cs) all in
+    let both = and_parts (is_ascii_digit c) (list_all is_ascii_digit cs) all in
     (digit_below_ten c both.0, all_digits cs both.1)
 
 pub digits_value_below : (cs : List ℕ) → list_all is_ascii_digit cs ≡ true → length cs ≤ 18 → digits_value 10 cs < 10 ^ 18

@@ -1,3 +1,4 @@
 pub mod LineLemmas
 pub mod ScanLemmas
 pub mod FieldLemmas
+pub mod HeadLemmas

@@ -2,7 +2,10 @@
 use Rattle.std.specs.Prelude.{◌≡◌, ◌≢◌, ℕ, ◌+◌, ◌<◌, ◌≤◌, Bool, ◌==◌, if◌then◌else◌, List, [], ◌∷◌, ◌++◌, length, take, drop, Option, None, Some, Result, Ok, Err, slice_index, ⊤}
 use Rattle.std.specs.List.{list_all}
 use Rattle.httparse.specs.Ascii.{line_feed}
-use Rattle.httparse.specs.Grammar.{RequestHead, print_blank}
+use Rattle.httparse.specs.Grammar.{RequestHead, ReadsRequest, print_blank}
+use Rattle.httparse.specs.Spans.{IsRequestWithin, IsRequestOf}
+use Rattle.httparse.specs.declared.spans.HeaderSpan.{HeaderSpan}
+use Rattle.httparse.specs.declared.spans.RequestSpans.{RequestSpans}
 use Rattle.cds_http.specs.declared.limits.TheConstants.{MOST_HEAD_BYTES, MOST_FIELDS}
 use Rattle.cds_http.specs.declared.lines.Scan.{Scan}
 use Rattle.cds_http.specs.declared.lines.Seen.{Seen}
@@ -81,6 +84,11 @@ head_of size h body = record {
 abbrev pub StandsFor : Result Head Fault → Front → Type 0
 StandsFor (Err f) front = front ≡ fails f
 StandsFor (Ok head) front = (size : ℕ) × (h : RequestHead) × (body : ℕ) × (front ≡ heads size h body) × (head ≡ head_of size h body)
+
+-- the parser found the head of the grammar, or there is none with so few fields
+abbrev pub ParsesHead : List ℕ → List HeaderSpan → Option RequestSpans → Type 0
+ParsesHead bytes headers None = (h : RequestHead) → ReadsRequest bytes h [] → MOST_FIELDS < length h.fields
+ParsesHead bytes headers (Some spans) = IsRequestWithin bytes headers spans × IsRequestOf bytes headers spans
 
 -- the bytes are judged as a head that has ended
 abbrev pub JudgesHead : ℕ → List ℕ → Result Head Fault → Type 0
