@@ -2,3 +2,4 @@ pub mod LineLemmas
 pub mod ScanLemmas
 pub mod FieldLemmas
 pub mod HeadLemmas
+pub mod ReadLemmas
