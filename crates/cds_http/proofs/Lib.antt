@@ -3,3 +3,5 @@ pub mod ScanLemmas
 pub mod FieldLemmas
 pub mod HeadLemmas
 pub mod ReadLemmas
+pub mod StateLemmas
+pub mod ItemLemmas
