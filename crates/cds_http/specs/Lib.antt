@@ -2,5 +2,6 @@ pub mod Lines
 pub mod Fields
 pub mod Front
 pub mod Items
-pub mod Scan
 pub mod Stream
+pub mod Scan
+pub mod Known

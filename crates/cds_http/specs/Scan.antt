@@ -16,11 +16,9 @@ use Rattle.cds_http.specs.declared.head.Head.{Head}
 use Rattle.cds_http.specs.declared.fields.Values.{Values}
 use Rattle.cds_http.specs.declared.fields.Values.TheVariants.{Absent, One, Several}
 use Rattle.cds_http.specs.declared.next.Fault.{Fault}
-use Rattle.cds_http.specs.declared.next.Next.{Next}
-use Rattle.cds_http.specs.declared.next.Next.TheVariants as next
-use Rattle.cds_http.specs.declared.next.Request.{Request}
 use Rattle.cds_http.specs.Lines.{lines_of, size_of, is_empty_line, HeadState, open_head, crowded, ended, state_of_lines, head_state}
 use Rattle.cds_http.specs.Fields.{fields_of, expects_continue, closes}
+use Rattle.cds_http.specs.Stream.{request_of}
 use Rattle.cds_http.specs.Front.{Front, waits, fails, heads, ReadsHead, judged, IsFront}
 
 -- The state of the head by the lines to come, where `count` of its lines have ended, and they and the empty lines
@@ -59,19 +57,6 @@ Finds bytes (Open scan) = IsScanned bytes scan × (scan.looked ≡ length bytes)
 Finds bytes Crowded = state_of_lines (lines_of bytes) ≡ crowded
 Finds bytes (Ended size) =
     (size ≤ length bytes) × (state_of_lines (lines_of bytes) ≡ ended size) × (state_of_lines (lines_of (take size bytes)) ≡ ended size)
-
--- the ranges of a request whose head has so many bytes
-abbrev pub request_of : ℕ → RequestHead → ℕ → Request
-request_of size h body =
-    let before = length (print_blank h.blank) in
-    let target = before + length h.method + 1 in
-    record {
-      method = record { start = before; end = before + length h.method };
-      path = record { start = target; end = target + length h.target };
-      body = record { start = size; end = size + body };
-      version = h.minor;
-      close = closes h.minor (fields_of h);
-    }
 
 -- what the code keeps of a head
 abbrev pub head_of : ℕ → RequestHead → ℕ → Head

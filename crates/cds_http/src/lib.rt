@@ -7,6 +7,8 @@
 
 mod fields;
 mod head;
+mod known;
+mod laws;
 mod limits;
 mod lines;
 mod messages;
@@ -15,5 +17,6 @@ mod next;
 pub use limits::{
     MESSAGE_ROOM, MOST_BODY_BYTES, MOST_FIELDS, MOST_HEAD_BYTES, MOST_LENGTH_DIGITS,
 };
+pub use laws::{decided_items_stay, one_list_of_items};
 
 pub use next::{Fault, Next, Request, Span};
