@@ -5,3 +5,4 @@ pub mod HeadLemmas
 pub mod ReadLemmas
 pub mod StateLemmas
 pub mod ItemLemmas
+pub mod KnownLemmas

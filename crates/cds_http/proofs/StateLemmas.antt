@@ -33,7 +33,7 @@ state_of_lines-stays lines more =
 
 -- ---- the state of the head at the front
 
-head_state-short : (bytes : List ℕ) → length bytes < 16384 → head_state bytes ≡ state_of_lines (lines_of bytes)
+pub head_state-short : (bytes : List ℕ) → length bytes < 16384 → head_state bytes ≡ state_of_lines (lines_of bytes)
 unfolding head_state
 head_state-short bytes short =
     let a : leb 16384 (length bytes) ≡ false = grind (arith, nat_tests) in
@@ -45,7 +45,7 @@ head_state-short bytes short =
     same large = refl
     same (ended size) = refl
 
-head_state-long : (bytes : List ℕ) → 16384 ≤ length bytes → head_state bytes ≡ unless_open large (state_of_lines (lines_of (take 16384 bytes)))
+pub head_state-long : (bytes : List ℕ) → 16384 ≤ length bytes → head_state bytes ≡ unless_open large (state_of_lines (lines_of (take 16384 bytes)))
 unfolding head_state
 head_state-long bytes long = let a : leb 16384 (length bytes) ≡ true = grind (arith, nat_tests) in rw a
 
