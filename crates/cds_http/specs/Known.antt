@@ -1,5 +1,5 @@
 -- What the code knows of the message at the front.
-use Rattle.std.specs.Prelude.{◌≡◌, ℕ, ◌+◌, ◌≤◌, Bool, ◌&&◌, not, nat_le, if◌then◌else◌, List, length}
+use Rattle.std.specs.Prelude.{◌≡◌, ℕ, ◌+◌, ◌≤◌, Bool, false, ◌&&◌, ◌==◌, not, nat_le, if◌then◌else◌, List, length}
 use Rattle.httparse.specs.Grammar.{RequestHead}
 use Rattle.cds_http.specs.declared.head.Head.{Head as TheHead}
 use Rattle.cds_http.specs.declared.known.Known.{Known}
@@ -37,3 +37,9 @@ AnswersFront (Fault f) held continued answer = answer ≡ next.Fault f
 AnswersFront (Head head) held continued answer =
     answer ≡ (if head.expects && not continued then next.Continue
     else (if nat_le head.request.body.end held then next.Request head.request else next.More))
+
+-- what is known of the front says that it has empty lines alone, which take so many bytes
+abbrev pub is_blank : Known → ℕ → Bool
+is_blank (Lines scan) held = (scan.count == 0) && (scan.line == held)
+is_blank (Head head) held = false
+is_blank (Fault f) held = false

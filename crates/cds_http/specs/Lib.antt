@@ -5,3 +5,4 @@ pub mod Items
 pub mod Stream
 pub mod Scan
 pub mod Known
+pub mod Inside

@@ -1,5 +1,5 @@
 -- A stream that comes in pieces, as its owner sees it.
-use Rattle.std.specs.Prelude.{◌≡◌, ℕ, ◌+◌, ◌-◌, ◌≤◌, Bool, true, false, ◌||◌, ◌&&◌, not, nat_le, if◌then◌else◌, List, [], ◌∷◌, ◌++◌, length, drop, take, slice_range, Option, None, Some, ⊤}
+use Rattle.std.specs.Prelude.{◌≡◌, ℕ, ◌+◌, ◌-◌, ◌≤◌, Bool, true, false, ◌||◌, ◌&&◌, not, nat_le, if◌then◌else◌, List, [], ◌∷◌, ◌++◌, length, drop, take, slice_range, IsUtf8, Option, None, Some, ⊤}
 use Rattle.httparse.specs.Grammar.{RequestHead, print_blank}
 use Rattle.cds_http.specs.declared.limits.TheConstants.{MESSAGE_ROOM}
 use Rattle.cds_http.specs.declared.next.Fault.{Fault}
@@ -8,7 +8,7 @@ use Rattle.cds_http.specs.declared.next.Next.TheVariants as next
 use Rattle.cds_http.specs.declared.next.Request.{Request}
 use Rattle.cds_http.specs.Fields.{fields_of, expects_continue, closes}
 use Rattle.cds_http.specs.Front.{Front, waits, fails, heads, IsFront}
-use Rattle.cds_http.specs.Items.{Message, Item, continue, request, fault, FirstItem, AreItems}
+use Rattle.cds_http.specs.Items.{Message, Item, continue, request, fault, AreItems, AreAfter}
 
 -- what is held of a stream, and what was answered of it
 pub record Stream : Type 0 where
@@ -109,3 +109,75 @@ dropped s r = record {
   last = None;
   closed = r.close;
 }
+
+-- the message that is this request of the bytes
+abbrev pub message_of : List ℕ → Request → Message
+message_of bytes r = record {
+  method = slice_range bytes r.method.start r.method.end;
+  target = slice_range bytes r.path.start r.path.end;
+  body = slice_range bytes r.body.start r.body.end;
+  version = r.version;
+  close = r.close;
+  size = r.body.end;
+}
+
+-- the ranges of a request lie within the bytes, and its target is text
+pub record IsRequestIn (bytes : List ℕ) (r : Request) : Type 0 where
+  pub method_ordered : r.method.start ≤ r.method.end
+  pub method_in_range : r.method.end ≤ length bytes
+  pub path_ordered : r.path.start ≤ r.path.end
+  pub path_in_range : r.path.end ≤ length bytes
+  pub path_text : IsUtf8 (slice_range bytes r.path.start r.path.end)
+  pub body_ordered : r.body.start ≤ r.body.end
+  pub body_in_range : r.body.end ≤ length bytes
+  pub version : r.version ≤ 1
+
+-- this holds of the request, if the answer is one
+abbrev pub IfRequest : Next → (Request → Type 0) → Type 0
+IfRequest next.More P = ⊤
+IfRequest next.Continue P = ⊤
+IfRequest (next.Request r) P = P r
+IfRequest (next.Fault f) P = ⊤
+
+-- ---- how the answers add up to the items of the whole stream
+
+-- the items of what the stream has from here on, where these bytes come yet, and after them its end or more
+abbrev pub ItemsFrom : Stream → List ℕ → Bool → List Item → Type 0
+ItemsFrom s more ended items = AreItems s.place (s.bytes ++ more) s.continued ended items
+
+-- the answer last was a fault
+abbrev pub has_failed : Stream → Bool
+has_failed s = is_fault s.last
+  where
+    is_fault : Option Next → Bool
+    is_fault None = false
+    is_fault (Some next.More) = false
+    is_fault (Some next.Continue) = false
+    is_fault (Some (next.Request r)) = false
+    is_fault (Some (next.Fault f)) = true
+
+-- What an answer adds to the items: nothing by `More`, and nothing by a request, which is added when it is dropped.
+-- The items of the stream before the answer are what it adds and then the items of the stream after it, whatever
+-- comes yet.
+abbrev pub AddsAnswer : Stream → Next → Stream → Type 0
+AddsAnswer s next.More t = (more : List ℕ) (ended : Bool) (items : List Item) → ItemsFrom t more ended items → ItemsFrom s more ended items
+AddsAnswer s next.Continue t =
+    (more : List ℕ) (ended : Bool) (items : List Item) → ItemsFrom t more ended items → ItemsFrom s more ended (continue ∷ items)
+AddsAnswer s (next.Request r) t = (more : List ℕ) (ended : Bool) (items : List Item) → ItemsFrom t more ended items → ItemsFrom s more ended items
+AddsAnswer s (next.Fault f) t = (more : List ℕ) (ended : Bool) → ItemsFrom s more ended (fault f ∷ [])
+
+-- a request that is dropped is the next item, and where it closes the connection it is the last
+abbrev pub AddsRequest : Stream → Request → Stream → Type 0
+AddsRequest s r t =
+    (more : List ℕ) (ended : Bool) (items : List Item) → AreAfter r.close items (ItemsFrom t more ended items)
+    → ItemsFrom s more ended (request (message_of s.bytes r) ∷ items)
+
+-- the fault at the end of the input, if there is one, as the items that are left
+abbrev pub last_items : Option Fault → List Item
+last_items None = []
+last_items (Some f) = fault f ∷ []
+
+-- the stream after its end was judged
+abbrev pub judged_end : Stream → Option Fault → Stream
+judged_end s None = s
+judged_end s (Some f) = record s { last = Some (next.Fault f) }

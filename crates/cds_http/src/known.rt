@@ -1,7 +1,7 @@
 //! What is known of the message at the front of the bytes held, and how it grows.
 
 ghost use Rattle.std.specs.Prelude.{◌≡◌, ◌<◌, ◌≤◌, length};
-ghost use Rattle.cds_http.specs.Known.{Knows, KnowsAll, AnswersFront};
+ghost use Rattle.cds_http.specs.Known.{Knows, KnowsAll, AnswersFront, is_blank};
 
 use crate::head::{Head, read_head};
 use crate::limits::MOST_HEAD_BYTES;
@@ -65,5 +65,15 @@ pub(crate) fn answer(known: &Known, held: usize, continued: bool) -> Next
                 Next::More
             }
         }
+    }
+}
+
+/// Whether all bytes, so many, are of empty lines, where every byte was looked at.
+pub(crate) fn is_blank(known: &Known, held: usize) -> bool
+    ensures { result ≡ is_blank known.now held }
+{
+    match known {
+        Known::Lines(scan) => scan.count == 0 && scan.line == held,
+        _ => false,
     }
 }

@@ -19,4 +19,5 @@ pub use limits::{
 };
 pub use laws::{decided_items_stay, one_list_of_items};
 
+pub use messages::Messages;
 pub use next::{Fault, Next, Request, Span};
