@@ -6,3 +6,4 @@ pub mod ReadLemmas
 pub mod StateLemmas
 pub mod ItemLemmas
 pub mod KnownLemmas
+pub mod MessageLemmas

@@ -60,7 +60,7 @@ fn append(held: &mut Vec<u8>, piece: &[u8])
     held.extend_from_slice(piece).unwrap();
 }
 
-/// Adds bytes behind those held, which begin at `start`, and answers where they begin then. They are moved only
+/// Adds bytes behind those held, which begin at `start`, and answers where they begin then. Those held are moved
 /// where the room behind them is used up.
 fn take_in(held: &mut Vec<u8>, start: usize, piece: &[u8]) -> usize
     requires start { start ≤ vec_len held.old }
@@ -73,7 +73,7 @@ fn take_in(held: &mut Vec<u8>, start: usize, piece: &[u8]) -> usize
     ensures total { vec_len held.new ≤ MESSAGE_ROOM }
     ensures capacity { MESSAGE_ROOM ≤ vec_capacity held.new }
 {
-    if piece.len() <= MESSAGE_ROOM - held.len() {
+    if start < held.len() && piece.len() <= MESSAGE_ROOM - held.len() {
         append(held, piece);
         return start;
     }
