@@ -121,11 +121,16 @@ large_ends_not : (t : Bool) (n : ℕ) → cond t large open_head ≡ ended n →
 large_ends_not true n is = cc
 large_ends_not false n is = cc
 
+-- the lines of the first bytes end it
+pub head_state-ended : (bytes : List ℕ) (n : ℕ) → head_state bytes ≡ ended n → state_of_lines (lines_of (take 16384 bytes)) ≡ ended n
+unfolding head_state
+head_state-ended bytes n is =
+    unless_open-ended (cond (leb 16384 (length bytes)) large open_head) (state_of_lines (lines_of (take 16384 bytes))) n (large_ends_not (leb 16384 (length bytes)) n) is
+
 -- a head that has ended ends within the bytes
 pub head_state-size : (bytes : List ℕ) (n : ℕ) → head_state bytes ≡ ended n → (n ≤ length bytes) × (n ≤ 16384)
-unfolding head_state
 head_state-size bytes n is =
-    let front = state_of_lines-size (take 16384 bytes) n (unless_open-ended _ (state_of_lines (lines_of (take 16384 bytes))) n (large_ends_not (leb 16384 (length bytes)) n) is) in
+    let front = state_of_lines-size (take 16384 bytes) n (head_state-ended bytes n is) in
     (omega (arith, front, length-take 16384 bytes), omega (arith, front, length-take 16384 bytes))
 
 -- a head that has ended has a line that isn't empty

@@ -1,5 +1,5 @@
 -- A stream that comes in pieces, as its owner sees it.
-use Rattle.std.specs.Prelude.{◌≡◌, ℕ, ◌+◌, ◌-◌, ◌≤◌, Bool, true, false, ◌||◌, ◌&&◌, not, nat_le, if◌then◌else◌, List, [], ◌∷◌, ◌++◌, length, drop, take, slice_range, IsUtf8, Option, None, Some, ⊤}
+use Rattle.std.specs.Prelude.{◌≡◌, ℕ, ◌+◌, ◌-◌, ◌≤◌, Bool, true, false, ◌||◌, ◌&&◌, not, nat_le, if◌then◌else◌, List, [], ◌∷◌, ◌++◌, length, drop, take, slice_range, IsUtf8, Option, None, Some, option_map, ⊤}
 use Rattle.httparse.specs.Grammar.{RequestHead, print_blank}
 use Rattle.cds_http.specs.declared.limits.TheConstants.{MESSAGE_ROOM}
 use Rattle.cds_http.specs.declared.next.Fault.{Fault}
@@ -31,13 +31,25 @@ new_stream = record { bytes = []; place = 0; continued = false; last = None; clo
 abbrev pub room_of : Stream → ℕ
 room_of s = MESSAGE_ROOM - length s.bytes
 
+-- the fault that was answered, if the answer is one
+abbrev pub fault_in : Option Next → Option Fault
+fault_in None = None
+fault_in (Some next.More) = None
+fault_in (Some next.Continue) = None
+fault_in (Some (next.Request r)) = None
+fault_in (Some (next.Fault f)) = Some f
+
+-- the request that was answered, if the answer is one
+abbrev pub request_in : Option Next → Option Request
+request_in None = None
+request_in (Some next.More) = None
+request_in (Some next.Continue) = None
+request_in (Some (next.Request r)) = Some r
+request_in (Some (next.Fault f)) = None
+
 -- what stays of the last answer when bytes are fed: a fault
 abbrev pub kept_answer : Option Next → Option Next
-kept_answer None = None
-kept_answer (Some next.More) = None
-kept_answer (Some next.Continue) = None
-kept_answer (Some (next.Request r)) = None
-kept_answer (Some (next.Fault f)) = Some (next.Fault f)
+kept_answer last = option_map next.Fault (fault_in last)
 
 -- the stream with further bytes
 abbrev pub fed : Stream → List ℕ → Stream
@@ -71,14 +83,7 @@ pub record Decides (s : Stream) (answer : Next) : Type 0 where
   pub is_front : IsFront s.place s.bytes front
   pub answer_is : answer ≡ next_of (length s.bytes) s.continued front
 
--- the answer is the fault that was answered last, or else what the bytes held decide
-abbrev pub AnswersNext : Stream → Option Next → Next → Type 0
-AnswersNext s None answer = Decides s answer
-AnswersNext s (Some next.More) answer = Decides s answer
-AnswersNext s (Some next.Continue) answer = Decides s answer
-AnswersNext s (Some (next.Request r)) answer = Decides s answer
-AnswersNext s (Some (next.Fault f)) answer = answer ≡ next.Fault f
-
+-- the answer asks the sender to go on
 abbrev pub is_continue : Next → Bool
 is_continue next.More = false
 is_continue next.Continue = true
@@ -88,17 +93,6 @@ is_continue (next.Fault f) = false
 -- the stream after an answer
 abbrev pub answered : Stream → Next → Stream
 answered s answer = record s { continued = s.continued || is_continue answer; last = Some answer }
-
--- the request that was answered last, and nothing was fed or dropped since
-abbrev pub asked : Stream → Option Request
-asked s = request_in s.last
-  where
-    request_in : Option Next → Option Request
-    request_in None = None
-    request_in (Some next.More) = None
-    request_in (Some next.Continue) = None
-    request_in (Some (next.Request r)) = Some r
-    request_in (Some (next.Fault f)) = None
 
 -- the stream after its first message was dropped, which is this request
 abbrev pub dropped : Stream → Request → Stream
@@ -144,17 +138,6 @@ IfRequest (next.Fault f) P = ⊤
 -- the items of what the stream has from here on, where these bytes come yet, and after them its end or more
 abbrev pub ItemsFrom : Stream → List ℕ → Bool → List Item → Type 0
 ItemsFrom s more ended items = AreItems s.place (s.bytes ++ more) s.continued ended items
-
--- the answer last was a fault
-abbrev pub has_failed : Stream → Bool
-has_failed s = is_fault s.last
-  where
-    is_fault : Option Next → Bool
-    is_fault None = false
-    is_fault (Some next.More) = false
-    is_fault (Some next.Continue) = false
-    is_fault (Some (next.Request r)) = false
-    is_fault (Some (next.Fault f)) = true
 
 -- What an answer adds to the items: nothing by `More`, and nothing by a request, which is added when it is dropped.
 -- The items of the stream before the answer are what it adds and then the items of the stream after it, whatever

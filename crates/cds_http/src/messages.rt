@@ -1,13 +1,13 @@
 //! A stream that comes in pieces, and what it has next.
 
-ghost use Rattle.std.specs.Prelude.{◌≡◌, ◌+◌, ◌-◌, ◌^◌, ◌<◌, ◌≤◌, ◌++◌, [], length, drop, false, true, Some, None, IsSome, IfSome, IfOk, vec_len, if◌then◌else◌};
+ghost use Rattle.std.specs.Prelude.{◌≡◌, ◌+◌, ◌-◌, ◌^◌, ◌<◌, ◌≤◌, ◌++◌, [], length, drop, false, true, Some, None, IsSome, IfSome, IfOk, MatchOption, vec_len, if◌then◌else◌};
 ghost use Rattle.std.specs.Vec.{vec_capacity};
 ghost use Rattle.cds_http.specs.Items.{is_only_empty_lines};
-ghost use Rattle.cds_http.specs.Stream.{new_stream, room_of, kept_answer, fed, AnswersNext, answered, asked, dropped, IfRequest, IsRequestIn, has_failed, AddsAnswer, AddsRequest, ItemsFrom, last_items, judged_end};
+ghost use Rattle.cds_http.specs.Stream.{new_stream, room_of, kept_answer, fed, fault_in, request_in, Decides, is_continue, answered, dropped, IfRequest, IsRequestIn, AddsAnswer, AddsRequest, ItemsFrom, last_items, judged_end};
 
 use crate::known::{Known, answer, is_blank, look};
 use crate::limits::MESSAGE_ROOM;
-use crate::next::{Fault, Next};
+use crate::next::{Fault, Next, Request};
 use cds_base::NoMemory;
 use std::alloc::Global;
 use std::marker::Model;
@@ -82,13 +82,37 @@ fn take_in(held: &mut Vec<u8>, start: usize, piece: &[u8]) -> usize
     0
 }
 
+fn fault_in(last: Option<Next>) -> Option<Fault>
+    ensures { result ≡ fault_in last }
+{
+    match last {
+        Some(Next::Fault(fault)) => Some(fault),
+        _ => None,
+    }
+}
+
+fn request_in(last: Option<Next>) -> Option<Request>
+    ensures { result ≡ request_in last }
+{
+    match last {
+        Some(Next::Request(request)) => Some(request),
+        _ => None,
+    }
+}
+
 fn kept_answer(last: Option<Next>) -> Option<Next>
     ensures { result ≡ kept_answer last }
 {
-    match last {
-        Some(Next::Fault(fault)) => Some(Next::Fault(fault)),
-        _ => None,
+    match fault_in(last) {
+        Some(fault) => Some(Next::Fault(fault)),
+        None => None,
     }
+}
+
+fn is_continue(next: &Next) -> bool
+    ensures { result ≡ is_continue next.now }
+{
+    matches!(next, Next::Continue)
 }
 
 impl Messages {
@@ -141,7 +165,7 @@ impl Messages {
     /// request that closes the connection was dropped.
     pub fn next(&mut self) -> Next
         requires { self.old.closed ≡ false }
-        ensures answer { AnswersNext self.old self.old.last result }
+        ensures answer { MatchOption (fault_in self.old.last) (Decides self.old result) (λ fault. result ≡ Next.Fault fault) }
         ensures after { self.new ≡ answered self.old result }
         ensures room { result ≡ Next.More → 0 < room_of self.new }
 
@@ -149,30 +173,44 @@ impl Messages {
         ensures request { IfRequest result (IsRequestIn self.new.bytes) }
 
         // The items of the stream from here on are what the answer adds, and then those after it.
-        ensures items { has_failed self.old ≡ false → AddsAnswer self.old result self.new }
+        ensures items { fault_in self.old.last ≡ None → AddsAnswer self.old result self.new }
     {
-        if let Some(Next::Fault(fault)) = self.last {
+        if let Some(fault) = fault_in(self.last) {
             return Next::Fault(fault);
         }
+        self.decide()
+    }
+
+    /// Answers what the bytes held decide.
+    fn decide(&mut self) -> Next
+        ensures answer { Decides self.old result }
+        ensures after { self.new ≡ answered self.old result }
+    {
         let bytes = &self.held[self.start..];
         self.known = look(self.known, bytes, self.place);
         let next = answer(&self.known, bytes.len(), self.continued);
-        self.continued = self.continued || matches!(next, Next::Continue);
+        self.continued |= is_continue(&next);
         self.last = Some(next);
         next
     }
 
     /// Drops the message that `next` answered last, since when nothing was fed and no message was dropped.
     pub fn done(&mut self)
-        requires { IsSome (asked self.old) }
-        ensures after { IfSome (asked self.old) (λ request. self.new ≡ dropped self.old request) }
+        requires { IsSome (request_in self.old.last) }
+        ensures after { IfSome (request_in self.old.last) (λ request. self.new ≡ dropped self.old request) }
 
         // The message is the next item of the stream, and the items after it are those of what is left.
-        ensures items { IfSome (asked self.old) (λ request. AddsRequest self.old request self.new) }
+        ensures items { IfSome (request_in self.old.last) (λ request. AddsRequest self.old request self.new) }
     {
-        let Some(Next::Request(request)) = self.last else {
-            unreachable!()
-        };
+        let request = request_in(self.last).unwrap();
+        self.drop_front(&request);
+    }
+
+    /// Drops the bytes of a request at the front.
+    fn drop_front(&mut self, request: &Request)
+        requires { request.now.body.end ≤ length self.old.bytes }
+        ensures { self.new ≡ dropped self.old request.now }
+    {
         self.start += request.body.end as usize;
         self.place += u64::from(request.body.end);
         self.known = Known::START;
