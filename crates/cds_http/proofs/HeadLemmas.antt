@@ -1,12 +1,11 @@
 -- The lines of a head that the grammar reads.
-use Rattle.std.proofs.Common.{◌≡◌, ◌≢◌, ℕ, ◌+◌, ◌<◌, ◌≤◌, Bool, true, false, cond, eqb, IsTrue, List, [], ◌∷◌, ◌++◌, length, map, refl, sym, ap, ◌∙◌, subst, arith, append_assoc, append-nil, length-append}
+use Rattle.std.proofs.Common.{◌≡◌, ◌≢◌, ℕ, ◌+◌, ◌<◌, ◌≤◌, Bool, true, false, cond, eqb, IsTrue, List, [], ◌∷◌, ◌++◌, length, refl, sym, ap, ◌∙◌, subst, arith, append_assoc, append-nil, length-append}
 use Rattle.std.specs.List.{All, flat_map}
 use Rattle.std.proofs.lemmas.List.Elements.{All-from_recursion, All-head, All-tail, All-append, All-cons, All-nil, All-weaker}
-use Rattle.std.proofs.lemmas.Bool.{false≢true}
 use Rattle.std.proofs.lemmas.Bool.Decides.{nat_tests}
-use Rattle.httparse.specs.Grammar.{is_token_byte, is_uri_byte, is_value_byte, AllPass, IsToken, LineEnd, crlf, lf, print_end, print_blank, print_version, Field, print_field, IsField, print_section, RequestHead, print_request, IsRequestHead}
+use Rattle.httparse.specs.Grammar.{is_token_byte, is_uri_byte, is_value_byte, LineEnd, crlf, lf, print_end, print_blank, print_version, Field, print_field, IsField, print_section, RequestHead, print_request, IsRequestHead}
 use Rattle.httparse.proofs.GrammarLemmas.{print_request-append, cons-append}
-use Rattle.cds_http.specs.Lines.{lines_of, is_empty_line, HeadState, crowded, ended, state_of_lines}
+use Rattle.cds_http.specs.Lines.{lines_of, is_empty_line, crowded, ended, state_of_lines}
 use Rattle.cds_http.specs.Scan.{state_on}
 use Rattle.cds_http.proofs.LineLemmas.{lines_of-line, state_on-zero}
 
@@ -57,7 +56,7 @@ state_on-blank [] at rest = let e : at + 0 ≡ at = omega arith in rw e
 state_on-blank (end ∷ ends) at rest =
     let first = ap lines_of (append_assoc (print_end end) (print_blank ends) rest) ∙ lines_of-end end [] (print_blank ends ++ rest) (All-nil (λ b. b ≢ 10)) in
     let size : at + (length (line_with end []) + 1) + length (print_blank ends) ≡ at + length (print_blank (end ∷ ends)) =
-        omega (arith, length-line_with end [], length-append (print_end end) (print_blank ends)) in
+    omega (arith, length-line_with end [], length-append (print_end end) (print_blank ends)) in
     rw first (empty end ∙ state_on-blank ends (at + (length (line_with end []) + 1)) rest ∙ ap (λ (n : ℕ). state_on 0 n (lines_of rest)) size)
   where
     empty : (end : LineEnd) → state_on 0 at (line_with end [] ∷ lines_of (print_blank ends ++ rest))
@@ -111,13 +110,12 @@ state_on-section [] last rest count at n are some few is =
 state_on-section (f ∷ fields) last rest count at n are some few is =
     let tail = flat_map print_field fields in
     let parts : print_section (f ∷ fields) last ++ rest ≡ print_field f ++ (print_section fields last ++ rest) =
-        ap (λ (b : List ℕ). b ++ rest) (append_assoc (print_field f) tail (print_end last)) ∙ append_assoc (print_field f) (tail ++ print_end last) rest in
+    ap (λ (b : List ℕ). b ++ rest) (append_assoc (print_field f) tail (print_end last)) ∙ append_assoc (print_field f) (tail ++ print_end last) rest in
     let line : lines_of (print_section (f ∷ fields) last ++ rest) ≡ line_with f.end (f.name ++ 58 ∷ f.raw) ∷ lines_of (print_section fields last ++ rest) =
-        ap lines_of parts ∙ field_line f (print_section fields last ++ rest) (All-head IsField f fields are) in
+    ap lines_of parts ∙ field_line f (print_section fields last ++ rest) (All-head IsField f fields are) in
     let full = long_line f.end f.name 58 f.raw (All-head IsField f fields are).name.0 in
     let step = state_on-full count at n (line_with f.end (f.name ++ 58 ∷ f.raw)) (lines_of (print_section fields last ++ rest)) full few (ap (state_on count at) (sym line) ∙ is) in
-    let later = state_on-section fields last rest (count + 1) (at + (length (line_with f.end (f.name ++ 58 ∷ f.raw)) + 1)) n (All-tail IsField f fields are) (omega arith) step.0 step.1 in
-    (
+    let later = state_on-section fields last rest (count + 1) (at + (length (line_with f.end (f.name ++ 58 ∷ f.raw)) + 1)) n (All-tail IsField f fields are) (omega arith) step.0 step.1 in (
       omega (arith, later.0),
       omega (arith, later.1, length-field_line f, length-append (print_field f ++ tail) (print_end last), length-append (print_field f) tail, length-append tail (print_end last)),
     )
@@ -139,7 +137,7 @@ request_line h = h.method ++ 32 ∷ (h.target ++ 32 ∷ print_version h.minor)
 clean_request : (h : RequestHead) → IsRequestHead h → Clean (request_line h)
 clean_request h is =
     let target = All-append (λ b. b ≢ 10) h.target (32 ∷ print_version h.minor) (All-weaker (λ b. IsTrue (is_uri_byte b)) (λ b. b ≢ 10) clean_uri h.target is.target.1)
-        (All-cons (λ b. b ≢ 10) 32 (print_version h.minor) (above_feed 32 (omega arith)) (clean_version h.minor)) in
+    (All-cons (λ b. b ≢ 10) 32 (print_version h.minor) (above_feed 32 (omega arith)) (clean_version h.minor)) in
     All-append (λ b. b ≢ 10) h.method (32 ∷ (h.target ++ 32 ∷ print_version h.minor)) (All-weaker (λ b. IsTrue (is_token_byte b)) (λ b. b ≢ 10) clean_token h.method is.method.1)
     (All-cons (λ b. b ≢ 10) 32 (h.target ++ 32 ∷ print_version h.minor) (above_feed 32 (omega arith)) target)
 
@@ -170,8 +168,8 @@ read_head_ends h rest n is state =
     let blank = length (print_blank h.blank) in
     let line = line_with h.line_end (request_line h) in
     let parts = ap (λ (b : List ℕ). state_on 0 0 (lines_of b)) (print_request-parts h rest)
-        ∙ state_on-blank h.blank 0 (request_line h ++ (print_end h.line_end ++ section))
-        ∙ ap (state_on 0 (0 + blank)) (lines_of-end h.line_end (request_line h) section (clean_request h is)) in
+    ∙ state_on-blank h.blank 0 (request_line h ++ (print_end h.line_end ++ section))
+    ∙ ap (state_on 0 (0 + blank)) (lines_of-end h.line_end (request_line h) section (clean_request h is)) in
     let start : state_on 0 (0 + blank) (line ∷ lines_of section) ≡ ended n = sym parts ∙ state_on-zero (lines_of (print_request h ++ rest)) ∙ state in
     let step = state_on-full 0 (0 + blank) n line (lines_of section) (long_line h.line_end h.method 32 (h.target ++ 32 ∷ print_version h.minor) is.method.0) (omega arith) start in
     let one : 0 + 1 ≡ 1 = omega arith in

@@ -1,8 +1,8 @@
 -- What is decided of a stream stays decided, and there is one list of items.
-use Rattle.std.proofs.Common.{◌≡◌, ◌≢◌, ℕ, ◌+◌, ◌-◌, ◌<◌, ◌≤◌, ◌⊎◌, inl, inr, Bool, true, false, cond, not, ◌&&◌, ◌||◌, eqb, leb, List, [], ◌∷◌, ◌++◌, length, take, drop, Option, Some, None, Result, Ok, Err, refl, sym, ap, ◌∙◌, subst, arith, append_assoc, append-nil, length-append, length-take, length-drop}
+use Rattle.std.proofs.Common.{◌≡◌, ◌≢◌, ℕ, ◌+◌, ◌≤◌, inl, inr, Bool, true, false, cond, not, ◌&&◌, leb, List, [], ◌∷◌, ◌++◌, length, take, drop, Option, Some, None, Result, Ok, Err, refl, sym, ap, ◌∙◌, subst, arith, append-nil, length-append, length-drop}
 use Rattle.std.proofs.lemmas.List.{take-append-le, drop-append-le}
 use Rattle.std.proofs.lemmas.Bool.Decides.{nat_tests}
-use Rattle.httparse.specs.Grammar.{RequestHead, ReadsRequest}
+use Rattle.httparse.specs.Grammar.{RequestHead}
 use Rattle.httparse.proofs.GrammarLemmas.{request_unique}
 use Rattle.cds_http.specs.declared.next.Fault.{Fault}
 use Rattle.cds_http.specs.declared.next.Fault.TheVariants.{Head, Truncated, LengthRequired, BodyTooLarge}
@@ -11,7 +11,7 @@ use Rattle.std.specs.List.{list_any}
 use Rattle.std.specs.Str.Parse.{digits_value}
 use Rattle.http1.specs.Fields.{Header, is_named, values_named}
 use Rattle.cds_http.specs.Lines.{HeadState, open_head, crowded, large, ended, head_state}
-use Rattle.cds_http.specs.Fields.{fields_of, expects_continue, closes, body_length, stated_length, is_length}
+use Rattle.cds_http.specs.Fields.{fields_of, expects_continue, body_length, stated_length, is_length}
 use Rattle.cds_http.specs.Front.{Front, waits, fails, heads, ReadsHead, with_length, judged, IsFrontIn, IsFront}
 use Rattle.cds_http.specs.Items.{Message, message_at, Item, continue, request, fault, item_of, is_only_empty_lines, FirstItem, AreItems, AreAfter}
 use Rattle.cds_http.proofs.StateLemmas.{head_state-stays, head_state-size}
@@ -38,8 +38,8 @@ IsFront-unique place bytes f g = in_state (head_state bytes)
 pub IsFront-stays : (place : ℕ) (bytes more : List ℕ) (f : Front) → f ≢ waits → IsFront place bytes f → IsFront place (bytes ++ more) f
 IsFront-stays place bytes more f decided is =
     elim (head_state-stays bytes more) [
-      inl same ↦ subst (λ (s : HeadState). IsFrontIn place (bytes ++ more) s f) (sym same) (in_state (head_state bytes) refl is)
-    | inr still ↦ absurd (decided (subst (λ (s : HeadState). IsFrontIn place bytes s f) still is))
+      | inl same ↦ subst (λ (s : HeadState). IsFrontIn place (bytes ++ more) s f) (sym same) (in_state (head_state bytes) refl is)
+      | inr still ↦ absurd (decided (subst (λ (s : HeadState). IsFrontIn place bytes s f) still is))
     ]
   where
     in_state : (s : HeadState) → head_state bytes ≡ s → IsFrontIn place bytes s f → IsFrontIn place (bytes ++ more) s f
@@ -119,7 +119,7 @@ message_at-stays : (bytes more : List ℕ) (size : ℕ) (h : RequestHead) (body 
 message_at-stays bytes more size h body fits =
     let rest : drop size (bytes ++ more) ≡ drop size bytes ++ more = drop-append-le size bytes more (omega arith) in
     let taken : take body (drop size (bytes ++ more)) ≡ take body (drop size bytes) =
-        ap (take body) rest ∙ take-append-le body (drop size bytes) more (omega (arith, length-drop size bytes)) in
+    ap (take body) rest ∙ take-append-le body (drop size bytes) more (omega (arith, length-drop size bytes)) in
     rw taken
 
 -- an item that is decided stays, however the bytes go on and wherever they end

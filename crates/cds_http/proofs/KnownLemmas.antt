@@ -1,5 +1,5 @@
 -- What the lines and the head say of the front.
-use Rattle.std.proofs.Common.{◌≡◌, ◌≢◌, ℕ, ◌+◌, ◌-◌, ◌<◌, ◌≤◌, ◌⊎◌, inl, inr, Bool, true, false, cond, not, ◌&&◌, leb, min, List, [], ◌∷◌, ◌++◌, length, take, drop, Option, Some, None, Result, Ok, Err, refl, sym, ap, ◌∙◌, subst, arith, length-take}
+use Rattle.std.proofs.Common.{◌≡◌, ℕ, ◌<◌, ◌≤◌, inl, inr, cond, leb, min, List, length, take, Option, Result, Ok, Err, refl, sym, ap, ◌∙◌, subst, arith, length-take}
 use Rattle.std.proofs.lemmas.List.{take-take, take_all, length-take-le}
 use Rattle.std.proofs.lemmas.Bool.{cases_lt}
 use Rattle.httparse.specs.Grammar.{RequestHead}
@@ -8,7 +8,7 @@ use Rattle.cds_http.specs.declared.next.Fault.{Fault}
 use Rattle.cds_http.specs.declared.next.Fault.TheVariants.{HeadTooLarge, TooManyFields}
 use Rattle.cds_http.specs.Lines.{lines_of, HeadState, open_head, crowded, large, ended, state_of_lines, unless_open, head_state}
 use Rattle.cds_http.specs.Front.{Front, waits, fails, heads, ReadsHead, judged, IsFrontIn, IsFront}
-use Rattle.cds_http.specs.Scan.{JudgesHead, StandsFor, head_of}
+use Rattle.cds_http.specs.Scan.{JudgesHead}
 use Rattle.cds_http.specs.Known.{IsHeadAt}
 use Rattle.cds_http.proofs.StateLemmas.{head_state-short, head_state-long}
 
@@ -16,8 +16,8 @@ use Rattle.cds_http.proofs.StateLemmas.{head_state-short, head_state-long}
 front_is : (bytes : List ℕ) (n : ℕ) → n ≡ min (length bytes) 16384 → take n bytes ≡ take 16384 bytes
 front_is bytes n is =
     elim (cases_lt (length bytes) 16384) [
-      inl short ↦ take_all n bytes (omega arith) ∙ sym (take_all 16384 bytes (omega arith))
-    | inr long ↦ let e : n ≡ 16384 = omega arith in ap (λ (k : ℕ). take k bytes) e
+      | inl short ↦ take_all n bytes (omega arith) ∙ sym (take_all 16384 bytes (omega arith))
+      | inr long ↦ let e : n ≡ 16384 = omega arith in ap (λ (k : ℕ). take k bytes) e
     ]
 
 in_state : (place : ℕ) (bytes : List ℕ) (s : HeadState) (f : Front) → head_state bytes ≡ s → IsFrontIn place bytes s f → IsFront place bytes f

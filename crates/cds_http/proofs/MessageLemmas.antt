@@ -1,12 +1,12 @@
 -- What `Messages` answers, from what it knows of the front.
-use Rattle.std.proofs.Common.{◌≡◌, ◌≢◌, ℕ, ◌+◌, ◌-◌, ◌<◌, ◌≤◌, ◌⊎◌, inl, inr, Bool, true, false, cond, not, ◌&&◌, ◌||◌, eqb, leb, List, [], ◌∷◌, ◌++◌, length, take, drop, get_or, slice_range, Option, Some, None, Result, Ok, Err, refl, sym, ap, ◌∙◌, subst, arith, append_assoc, append-nil, length-append, length-take, length-drop}
-use Rattle.std.specs.Prelude.{IsUtf8, IfSome}
+use Rattle.std.proofs.Common.{◌≡◌, ◌≢◌, ℕ, ◌+◌, ◌-◌, ◌<◌, ◌≤◌, inl, inr, Bool, true, false, cond, not, ◌&&◌, ◌||◌, eqb, leb, List, [], ◌∷◌, ◌++◌, length, take, drop, get_or, slice_range, Option, Some, None, Result, Ok, Err, refl, sym, ap, ◌∙◌, subst, arith, append_assoc, append-nil, length-append}
+use Rattle.std.specs.Prelude.{IfSome}
 use Rattle.std.specs.List.{list_all}
-use Rattle.std.proofs.lemmas.List.{take-append-le, drop-append-le, take_at, drop_at, take-append-drop, take_all, get_or_append_left, length-take-le}
+use Rattle.std.proofs.lemmas.List.{take-append-le, drop-append-le, take_at, drop_at, take-append-drop, get_or_append_left}
 use Rattle.std.proofs.lemmas.List.Folds.{list_all-append}
 use Rattle.std.proofs.lemmas.Bool.{cases_lt}
 use Rattle.std.proofs.lemmas.Bool.Decides.{nat_tests}
-use Rattle.httparse.specs.Grammar.{RequestHead, ReadsRequest, print_blank, print_end, print_version, print_section, print_request}
+use Rattle.httparse.specs.Grammar.{RequestHead, ReadsRequest, print_blank, print_end, print_version, print_section}
 use Rattle.httparse.proofs.GrammarLemmas.{print_request-append, cons-append}
 use Rattle.cds_http.specs.declared.lines.Scan.{Scan}
 use Rattle.cds_http.specs.declared.head.Head.{Head as TheHead}
@@ -18,17 +18,17 @@ use Rattle.cds_http.specs.declared.next.Request.{Request}
 use Rattle.cds_http.specs.declared.next.Next.{Next}
 use Rattle.cds_http.specs.declared.next.Next.TheVariants as next
 use Rattle.cds_http.specs.Lines.{lines_of, size_of, is_empty_line, HeadState, open_head, crowded, large, ended, state_of_lines, unless_open, head_state}
-use Rattle.cds_http.specs.Fields.{fields_of, expects_continue, closes, body_length}
+use Rattle.cds_http.specs.Fields.{fields_of, expects_continue, body_length}
 use Rattle.cds_http.specs.Front.{Front, waits, fails, heads, ReadsHead, with_length, judged, IsFrontIn, IsFront}
 use Rattle.cds_http.specs.Items.{Message, message_at, Item, continue, request, fault, item_of, is_only_empty_lines, FirstItem, AreItems, AreAfter}
-use Rattle.cds_http.specs.Stream.{Stream, request_of, message_of, next_of, Decides, IfRequest, IsRequestIn, is_continue, fault_in, request_in, kept_answer, room_of, answered, dropped, ItemsFrom, AddsAnswer, AddsRequest, last_items}
-use Rattle.cds_http.specs.Scan.{IsScanned, head_of}
-use Rattle.cds_http.specs.Known.{IsHeadAt, Knows, KnowsAll, AnswersFront, is_blank}
+use Rattle.cds_http.specs.Stream.{Stream, request_of, message_of, next_of, Decides, IfRequest, IsRequestIn, is_continue, request_in, kept_answer, room_of, answered, dropped, ItemsFrom, AddsAnswer, AddsRequest}
+use Rattle.cds_http.specs.Scan.{IsScanned}
+use Rattle.cds_http.specs.Known.{Knows, KnowsAll, AnswersFront, is_blank}
 use Rattle.cds_http.specs.Inside.{WasTold}
 use Rattle.cds_http.proofs.LineLemmas.{lines_of-stays, state_on-zero}
 use Rattle.cds_http.proofs.ScanLemmas.{lines_of-rest}
 use Rattle.cds_http.proofs.StateLemmas.{head_state-long, head_state-ended, ended_not_empty}
-use Rattle.cds_http.proofs.ItemLemmas.{IsFront-stays, IsFront-size, IsFront-body, FirstItem-stays, FirstItem-unique, request_fits}
+use Rattle.cds_http.proofs.ItemLemmas.{IsFront-stays, IsFront-size, IsFront-body, FirstItem-stays, FirstItem-unique}
 
 -- ---- what is known stays known when bytes are fed
 
@@ -212,8 +212,8 @@ of_request s r x = of_front x.front x.is_front x.answer_is
 open_is_short : (bytes : List ℕ) → head_state bytes ≡ open_head → length bytes < 16384
 open_is_short bytes is =
     elim (cases_lt (length bytes) 16384) [
-      inl short ↦ short
-    | inr long ↦ absurd (never (state_of_lines (lines_of (take 16384 bytes))) (sym (head_state-long bytes long) ∙ is))
+      | inl short ↦ short
+      | inr long ↦ absurd (never (state_of_lines (lines_of (take 16384 bytes))) (sym (head_state-long bytes long) ∙ is))
     ]
   where
     never : (s : HeadState) → unless_open large s ≡ open_head → ⊥
@@ -318,8 +318,8 @@ heads_not_empty place bytes size h body = in_state (head_state bytes) refl
         let lines = ap lines_of (sym (take-append-drop 16384 bytes)) ∙ later.1 in
         let front = ended_not_empty (lines_of (take 16384 bytes)) 0 n (state_on-zero (lines_of (take 16384 bytes)) ∙ head_state-ended bytes n at) in
         let all : list_all is_empty_line (lines_of bytes) ≡ false =
-            ap (list_all is_empty_line) lines ∙ list_all-append is_empty_line (lines_of (take 16384 bytes)) later.0
-            ∙ ap (λ (b : Bool). b && list_all is_empty_line later.0) front in
+        ap (list_all is_empty_line) lines ∙ list_all-append is_empty_line (lines_of (take 16384 bytes)) later.0
+        ∙ ap (λ (b : Bool). b && list_all is_empty_line later.0) front in
         ap (λ (b : Bool). b && eqb (size_of (lines_of bytes)) (length bytes)) all
 
 pub blank_is : (place : ℕ) (bytes : List ℕ) (c : Bool) (known : Known) → KnowsAll place bytes known → FirstItem place bytes c false None
@@ -434,6 +434,6 @@ module _ (s : Stream) (known : Known) (held : ℕ) (all : held ≡ length s.byte
   pub end_cut_items : false ≡ is_blank known held → ItemsFrom s [] true (fault (Truncated s.place) ∷ [])
   end_cut_items more = (
     subst (λ (b : List ℕ). FirstItem s.place b s.continued true (Some (fault (Truncated s.place)))) (sym (append-nil s.bytes))
-    (ends_cut s.place s.bytes s.continued end_told.1 (sym (more ∙ only))),
+        (ends_cut s.place s.bytes s.continued end_told.1 (sym (more ∙ only))),
     refl,
   )

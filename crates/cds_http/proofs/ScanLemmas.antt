@@ -1,13 +1,12 @@
 -- One more line of a head that is looked at.
-use Rattle.std.proofs.Common.{◌≡◌, ◌≢◌, ℕ, suc, ◌+◌, ◌-◌, ◌<◌, ◌≤◌, Bool, true, false, cond, not, ◌&&◌, eqb, ltb, leb, List, [], ◌∷◌, ◌++◌, length, get_or, take, drop, refl, sym, ap, ◌∙◌, subst, arith, append_assoc, append-nil, length-take, length-drop, length-append, get_or-take, get_or-drop}
-use Rattle.std.specs.List.{All, list_all}
-use Rattle.std.proofs.lemmas.List.{take-append-drop, drop-drop, drop_more, length-take-le, take_at, get_or_default}
+use Rattle.std.proofs.Common.{◌≡◌, ◌≢◌, ℕ, ◌+◌, ◌-◌, ◌<◌, ◌≤◌, Bool, true, false, cond, ◌&&◌, eqb, List, [], ◌∷◌, ◌++◌, length, get_or, take, drop, refl, sym, ap, ◌∙◌, arith, append_assoc, length-drop, length-append, get_or-take, get_or-drop}
+use Rattle.std.specs.List.{All}
+use Rattle.std.proofs.lemmas.List.{take-append-drop, drop-drop, drop_more, length-take-le, take_at}
 use Rattle.std.proofs.lemmas.List.Elements.{All-from_get_or}
 use Rattle.std.proofs.lemmas.List.Folds.{list_all-append}
 use Rattle.std.proofs.lemmas.Bool.Decides.{nat_tests}
-use Rattle.cds_http.specs.declared.lines.Scan.{Scan}
 use Rattle.cds_http.specs.declared.lines.Step.TheVariants as step
-use Rattle.cds_http.specs.Lines.{lines_of, size_of, is_empty_line, HeadState, open_head, crowded, ended, state_of_lines}
+use Rattle.cds_http.specs.Lines.{lines_of, size_of, is_empty_line, open_head, crowded, ended, state_of_lines}
 use Rattle.cds_http.specs.Scan.{state_on, step_of, IsScanned}
 use Rattle.cds_http.proofs.LineLemmas.{lines_of-line, lines_of-none, lines_of-append, state_on-zero}
 
@@ -59,7 +58,7 @@ lines_of-up_to bytes line at low high feed none whole =
     let front = take line bytes ++ (l ++ 10 ∷ []) in
     let sizes : length front ≡ at + 1 = omega (arith, length-append (take line bytes) (l ++ 10 ∷ []), length-append l (10 ∷ []), length-take-le line bytes (omega arith), length-line_up_to bytes line at low (omega arith)) in
     let parts : bytes ≡ front ++ drop (at + 1) bytes = sym (take-append-drop line bytes) ∙ ap (λ (rest : List ℕ). take line bytes ++ rest) (split_at_feed bytes line at low high feed)
-        ∙ simp append_assoc in
+    ∙ simp append_assoc in
     let taken : take (at + 1) bytes ≡ front = ap (take (at + 1)) parts ∙ take_at front (drop (at + 1) bytes) (at + 1) sizes in
     ap lines_of taken
     ∙ lines_of-append (take line bytes) (l ++ 10 ∷ []) (whole ∙ sym (length-take-le line bytes (omega arith)))
@@ -74,7 +73,7 @@ lines_of-rest bytes line high none whole =
     ∙ lines_of-append (take line bytes) (drop line bytes) (whole ∙ sym (length-take-le line bytes high))
     ∙ ap (λ (rest : List (List ℕ)). lines_of (take line bytes) ++ rest)
     (lines_of-none (drop line bytes) (All-from_get_or (λ b. b ≢ 10) (drop line bytes) 0 λ i h.
-        rw get_or-drop (none (line + i) (omega arith) (omega (arith, length-drop line bytes)))))
+    rw get_or-drop (none (line + i) (omega arith) (omega (arith, length-drop line bytes)))))
 
 -- what a line that passes makes of the state, and of whether all are empty
 step_passes : (count at next : ℕ) (line : List ℕ) (lines : List (List ℕ)) → step_of count line ≡ step.Passed next

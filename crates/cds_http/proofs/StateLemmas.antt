@@ -1,5 +1,5 @@
 -- What is decided of a head stays decided, however the bytes go on.
-use Rattle.std.proofs.Common.{◌≡◌, ◌≢◌, ℕ, ◌+◌, ◌-◌, ◌<◌, ◌≤◌, ◌⊎◌, inl, inr, Bool, true, false, cond, not, ◌&&◌, eqb, leb, min, List, [], ◌∷◌, ◌++◌, length, take, drop, refl, sym, ap, ◌∙◌, subst, arith, append_assoc, append-nil, length-append, length-take}
+use Rattle.std.proofs.Common.{◌≡◌, ℕ, ◌+◌, ◌-◌, ◌<◌, ◌≤◌, ◌⊎◌, inl, inr, Bool, true, false, cond, ◌&&◌, eqb, leb, List, [], ◌∷◌, ◌++◌, length, take, refl, sym, ap, ◌∙◌, subst, arith, length-append, length-take}
 use Rattle.std.specs.List.{list_all}
 use Rattle.std.proofs.lemmas.List.{take-append-le, take_all}
 use Rattle.std.proofs.Math.Seq.{take-append-add}
@@ -27,8 +27,8 @@ state_on-stays (line ∷ lines) more count at =
 pub state_of_lines-stays : (lines more : List (List ℕ)) → (state_of_lines (lines ++ more) ≡ state_of_lines lines) ⊎ (state_of_lines lines ≡ open_head)
 state_of_lines-stays lines more =
     elim (state_on-stays lines more 0 0) [
-      inl same ↦ inl (sym (state_on-zero (lines ++ more)) ∙ same ∙ state_on-zero lines)
-    | inr still ↦ inr (sym (state_on-zero lines) ∙ still)
+      | inl same ↦ inl (sym (state_on-zero (lines ++ more)) ∙ same ∙ state_on-zero lines)
+      | inr still ↦ inr (sym (state_on-zero lines) ∙ still)
     ]
 
 -- ---- the state of the head at the front
@@ -71,26 +71,26 @@ take_over xs ys n low =
 pub head_state-stays : (bytes more : List ℕ) → (head_state (bytes ++ more) ≡ head_state bytes) ⊎ (head_state bytes ≡ open_head)
 head_state-stays bytes more =
     elim (cases_lt (length bytes) 16384) [
-      inl short ↦ elim (from_lines bytes (take (16384 - length bytes) more)) [
-        inl same ↦ elim (cases_lt (length (bytes ++ more)) 16384) [
-          inl below ↦
+      | inl short ↦ elim (from_lines bytes (take (16384 - length bytes) more)) [
+        | inl same ↦ elim (cases_lt (length (bytes ++ more)) 16384) [
+          | inl below ↦
               let all : take (16384 - length bytes) more ≡ more = take_all _ more (omega (arith, length-append bytes more)) in
               inl (head_state-short (bytes ++ more) below ∙ ap (λ (m : List ℕ). state_of_lines (lines_of (bytes ++ m))) (sym all) ∙ same ∙ sym (head_state-short bytes short))
-        | inr long ↦
-            let cut : take 16384 (bytes ++ more) ≡ bytes ++ take (16384 - length bytes) more = take_over bytes more 16384 (omega arith) in
-            let front = head_state-long (bytes ++ more) long ∙ ap (λ (b : List ℕ). unless_open large (state_of_lines (lines_of b))) cut ∙ ap (unless_open large) same in
-            elim (unless_open_decided (state_of_lines (lines_of bytes))) [
-              inl decided ↦ inl (front ∙ decided ∙ sym (head_state-short bytes short))
-            | inr still ↦ inr (head_state-short bytes short ∙ still)
-            ]
+          | inr long ↦
+              let cut : take 16384 (bytes ++ more) ≡ bytes ++ take (16384 - length bytes) more = take_over bytes more 16384 (omega arith) in
+              let front = head_state-long (bytes ++ more) long ∙ ap (λ (b : List ℕ). unless_open large (state_of_lines (lines_of b))) cut ∙ ap (unless_open large) same in
+              elim (unless_open_decided (state_of_lines (lines_of bytes))) [
+                | inl decided ↦ inl (front ∙ decided ∙ sym (head_state-short bytes short))
+                | inr still ↦ inr (head_state-short bytes short ∙ still)
+              ]
         ]
-      | inr still ↦ inr (head_state-short bytes short ∙ still)
+        | inr still ↦ inr (head_state-short bytes short ∙ still)
       ]
-    | inr long ↦ inl (
-        head_state-long (bytes ++ more) (omega (arith, length-append bytes more))
-        ∙ ap (λ (b : List ℕ). unless_open large (state_of_lines (lines_of b))) (take-append-le 16384 bytes more long)
-        ∙ sym (head_state-long bytes long)
-      )
+      | inr long ↦ inl (
+          head_state-long (bytes ++ more) (omega (arith, length-append bytes more))
+          ∙ ap (λ (b : List ℕ). unless_open large (state_of_lines (lines_of b))) (take-append-le 16384 bytes more long)
+          ∙ sym (head_state-long bytes long)
+          )
     ]
 
 -- ---- where a head ends

@@ -1,6 +1,6 @@
 -- What stands at the front of a byte string: a head by the default grammar of `httparse`, a fault, or too little.
-use Rattle.std.specs.Prelude.{◌≡◌, ℕ, ◌+◌, Bool, List, [], length, take, Option, None, Some, Result, Ok, Err}
-use Rattle.httparse.specs.Grammar.{RequestHead, ReadsRequest, print_blank}
+use Rattle.std.specs.Prelude.{◌≡◌, ℕ, List, [], take, Option, None, Some, Result, Ok, Err}
+use Rattle.httparse.specs.Grammar.{RequestHead, ReadsRequest}
 use Rattle.cds_http.specs.declared.next.Fault.{Fault}
 use Rattle.cds_http.specs.declared.next.Fault.TheVariants.{Head, HeadTooLarge, TooManyFields}
 use Rattle.cds_http.specs.Lines.{HeadState, open_head, crowded, large, ended, head_state}

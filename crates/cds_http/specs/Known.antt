@@ -1,13 +1,12 @@
 -- What the code knows of the message at the front.
-use Rattle.std.specs.Prelude.{◌≡◌, ℕ, ◌+◌, ◌≤◌, Bool, false, ◌&&◌, ◌==◌, not, nat_le, if◌then◌else◌, List, length}
+use Rattle.std.specs.Prelude.{◌≡◌, ℕ, Bool, false, ◌&&◌, ◌==◌, not, nat_le, if◌then◌else◌, List, length}
 use Rattle.httparse.specs.Grammar.{RequestHead}
 use Rattle.cds_http.specs.declared.head.Head.{Head as TheHead}
 use Rattle.cds_http.specs.declared.known.Known.{Known}
 use Rattle.cds_http.specs.declared.known.Known.TheVariants.{Lines, Head, Fault}
 use Rattle.cds_http.specs.declared.next.Next.{Next}
 use Rattle.cds_http.specs.declared.next.Next.TheVariants as next
-use Rattle.cds_http.specs.Front.{Front, waits, fails, heads, IsFront}
-use Rattle.cds_http.specs.Stream.{next_of}
+use Rattle.cds_http.specs.Front.{waits, fails, heads, IsFront}
 use Rattle.cds_http.specs.Scan.{IsScanned, head_of}
 
 -- this head stands at the front

@@ -1,8 +1,8 @@
 -- What a part of the crate knows when it has looked at a part of the bytes.
-use Rattle.std.specs.Prelude.{◌≡◌, ◌≢◌, ℕ, ◌+◌, ◌<◌, ◌≤◌, Bool, ◌==◌, if◌then◌else◌, List, [], ◌∷◌, ◌++◌, length, take, drop, Option, None, Some, Result, Ok, Err, slice_index, ⊤}
+use Rattle.std.specs.Prelude.{◌≡◌, ◌≢◌, ℕ, ◌+◌, ◌<◌, ◌≤◌, ◌==◌, if◌then◌else◌, List, [], ◌∷◌, ◌++◌, length, take, Option, None, Some, Result, Ok, Err, slice_index}
 use Rattle.std.specs.List.{list_all}
 use Rattle.httparse.specs.Ascii.{line_feed}
-use Rattle.httparse.specs.Grammar.{RequestHead, ReadsRequest, print_blank}
+use Rattle.httparse.specs.Grammar.{RequestHead, ReadsRequest}
 use Rattle.httparse.specs.Spans.{IsRequestWithin, IsRequestOf}
 use Rattle.httparse.specs.declared.spans.HeaderSpan.{HeaderSpan}
 use Rattle.httparse.specs.declared.spans.RequestSpans.{RequestSpans}
@@ -16,10 +16,10 @@ use Rattle.cds_http.specs.declared.head.Head.{Head}
 use Rattle.cds_http.specs.declared.fields.Values.{Values}
 use Rattle.cds_http.specs.declared.fields.Values.TheVariants.{Absent, One, Several}
 use Rattle.cds_http.specs.declared.next.Fault.{Fault}
-use Rattle.cds_http.specs.Lines.{lines_of, size_of, is_empty_line, HeadState, open_head, crowded, ended, state_of_lines, head_state}
-use Rattle.cds_http.specs.Fields.{fields_of, expects_continue, closes}
+use Rattle.cds_http.specs.Lines.{lines_of, size_of, is_empty_line, HeadState, open_head, crowded, ended, state_of_lines}
+use Rattle.cds_http.specs.Fields.{fields_of, expects_continue}
 use Rattle.cds_http.specs.Stream.{request_of}
-use Rattle.cds_http.specs.Front.{Front, waits, fails, heads, ReadsHead, judged, IsFront}
+use Rattle.cds_http.specs.Front.{Front, fails, heads, ReadsHead, judged}
 
 -- The state of the head by the lines to come, where `count` of its lines have ended, and they and the empty lines
 -- before them take `at` bytes.

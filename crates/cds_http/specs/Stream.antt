@@ -1,5 +1,5 @@
 -- A stream that comes in pieces, as its owner sees it.
-use Rattle.std.specs.Prelude.{◌≡◌, ℕ, ◌+◌, ◌-◌, ◌≤◌, Bool, true, false, ◌||◌, ◌&&◌, not, nat_le, if◌then◌else◌, List, [], ◌∷◌, ◌++◌, length, drop, take, slice_range, IsUtf8, Option, None, Some, option_map, ⊤}
+use Rattle.std.specs.Prelude.{◌≡◌, ℕ, ◌+◌, ◌-◌, ◌≤◌, Bool, true, false, ◌||◌, ◌&&◌, not, nat_le, if◌then◌else◌, List, [], ◌∷◌, ◌++◌, length, drop, slice_range, IsUtf8, Option, None, Some, option_map, ⊤}
 use Rattle.httparse.specs.Grammar.{RequestHead, print_blank}
 use Rattle.cds_http.specs.declared.limits.TheConstants.{MESSAGE_ROOM}
 use Rattle.cds_http.specs.declared.next.Fault.{Fault}

@@ -9,12 +9,10 @@ pub fn decided_items_stay()
     ensures { (place : ℕ) (bytes more : List ℕ) (continued ended : Bool) (decided items : List Item)
         → AreItems place bytes continued false decided → AreItems place (bytes ++ more) continued ended items
         → (later : List Item) × (items ≡ decided ++ later) }
-{
-}
+{}
 
 /// A stream has one list of items.
 pub fn one_list_of_items()
     ensures { (place : ℕ) (bytes : List ℕ) (continued ended : Bool) (items others : List Item)
         → AreItems place bytes continued ended items → AreItems place bytes continued ended others → items ≡ others }
-{
-}
+{}

@@ -57,7 +57,11 @@ fn step_of(count: usize, line: &[u8]) -> Step
     ensures { result ≡ step_of count line.now }
 {
     if is_empty_line(line) {
-        if count == 0 { Step::Passed(0) } else { Step::Ends }
+        if count == 0 {
+            Step::Passed(0)
+        } else {
+            Step::Ends
+        }
     } else if count == MOST_FIELDS + 1 {
         Step::Crowds
     } else {

@@ -1,4 +1,4 @@
-use Rattle.std.proofs.Common.{◌≡◌, eqb, false, ap, ◌∙◌, arith}
+use Rattle.std.proofs.Common.{◌≡◌, eqb, false, ap, arith}
 use Rattle.std.proofs.lemmas.Bool.Decides.{nat_tests}
 use Rattle.http1.specs.Fields.{known_fields}
 use Rattle.http1.specs.declared.fields.KnownFields.{KnownFields}

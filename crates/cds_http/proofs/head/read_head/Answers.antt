@@ -1,12 +1,11 @@
 -- The head that was parsed is all of the bytes, and its words and fields are the grammar's.
-use Rattle.std.proofs.Common.{◌≡◌, ◌+◌, ◌≤◌, ℕ, List, [], length, drop, map, take, ◌-◌, Some, None, Ok, Err, Result, ap, sym, ◌∙◌, refl, arith}
+use Rattle.std.proofs.Common.{◌≡◌, ◌+◌, ℕ, List, [], length, drop, map, take, ◌-◌, Some, None, Ok, ap, sym, ◌∙◌, refl, arith}
 use Rattle.std.proofs.lemmas.Result.{err_from_is_err_and}
 use Rattle.std.specs.List.{prefix_len}
 use Rattle.httparse.specs.Spans.{header_bytes}
 use Rattle.httparse.specs.Pieces.{is_newline}
 use Rattle.httparse.specs.Grammar.{RequestHead, ReadsRequest, print_blank}
 use Rattle.http1.specs.Fields.{Header}
-use Rattle.cds_http.specs.declared.next.Fault.{Fault}
 use Rattle.cds_http.specs.declared.next.Span.{Span}
 use Rattle.cds_http.specs.Fields.{fields_of, body_length, closes, expects_continue}
 use Rattle.cds_http.specs.Front.{with_length, fails}
@@ -73,14 +72,14 @@ returns c =
     let start = c.blank_len.result in
     let target = c.in-Some.spans.path.end - c.in-Some.spans.path.start in
     let word : c.span_at-method.result ≡ record { start = start; end = start + length h.method } =
-        c.span_at-method.ensures ∙ ap (λ (n : ℕ). let w : Span = record { start = start; end = start + n } in w) (method s) in
+    c.span_at-method.ensures ∙ ap (λ (n : ℕ). let w : Span = record { start = start; end = start + n } in w) (method s) in
     let next : c.span_at-path.result ≡ record { start = start + length h.method + 1; end = start + length h.method + 1 + length h.target } =
-        c.span_at-path.ensures
-        ∙ ap (λ (e : ℕ). let w : Span = record { start = e + 1; end = e + 1 + target } in w) (ap (λ (x : Span). x.end) word)
-        ∙ ap (λ (n : ℕ). let w : Span = record { start = start + length h.method + 1; end = start + length h.method + 1 + n } in w) (path s) in
+    c.span_at-path.ensures
+    ∙ ap (λ (e : ℕ). let w : Span = record { start = e + 1; end = e + 1 + target } in w) (ap (λ (x : Span). x.end) word)
+    ∙ ap (λ (n : ℕ). let w : Span = record { start = start + length h.method + 1; end = start + length h.method + 1 + n } in w) (path s) in
     let pairs = map (header_bytes c.args.bytes.now) (take c.in-Some.spans.headers c.parse_head.new.headers) in
     let close = c.closes.ensures ∙ ap (λ (v : ℕ). closes v pairs) (version s) ∙ ap (closes h.minor) (fields s) in
     let expects = c.expects_continue.ensures ∙ ap (λ (v : ℕ). expects_continue v pairs c.in_ok-length.length) (version s)
-        ∙ ap (λ (fs : List Header). expects_continue h.minor fs c.in_ok-length.length) (fields s) in
+    ∙ ap (λ (fs : List Header). expects_continue h.minor fs c.in_ok-length.length) (fields s) in
     let blank : c.blank_len.result ≡ length (print_blank h.blank) = c.blank_len.ensures ∙ before s in
     (Some h, reads s, (n, h, c.in_ok-length.length, ap (with_length n h) stated, head_is n c.in_ok-length.length c.blank_len.result h c.span_at-method.result c.span_at-path.result c.in-Some.spans.version c.closes.result c.expects_continue.result word next (version s) close expects blank))

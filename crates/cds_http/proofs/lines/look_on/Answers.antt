@@ -1,5 +1,5 @@
 -- What one more line, or no more, says of the head.
-use Rattle.std.proofs.Common.{◌≡◌, ◌<◌, ◌+◌, sym, ◌∙◌, refl, subst, length, arith}
+use Rattle.std.proofs.Common.{◌≡◌, sym, ◌∙◌, refl, subst, length, arith}
 use Rattle.cds_http.specs.Scan.{IsScanned}
 use Rattle.cds_http.proofs.ScanLemmas.{scanned_passes, found_crowded, found_end, found_front, found_open}
 use Rattle.cds_http.proofs.lines.look_on.Goals as goal

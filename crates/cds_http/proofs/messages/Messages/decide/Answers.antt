@@ -1,5 +1,5 @@
 -- The bytes held are looked at, and their front answers.
-use Rattle.std.proofs.Common.{◌≡◌, ◌-◌, ◌∙◌, ℕ, List, Bool, ◌||◌, Some, ap, sym, subst, arith, length, take, drop}
+use Rattle.std.proofs.Common.{◌≡◌, ◌-◌, ◌∙◌, ℕ, List, Bool, ◌||◌, Some, ap, sym, subst, length, take, drop}
 use Rattle.std.proofs.lemmas.List.{take_rest}
 use Rattle.cds_http.specs.Stream.{Stream, Decides}
 use Rattle.cds_http.specs.Known.{KnowsAll, AnswersFront}

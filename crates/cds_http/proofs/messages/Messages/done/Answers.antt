@@ -1,5 +1,5 @@
 -- The request that is dropped is the next item.
-use Rattle.std.proofs.Common.{◌≡◌, ◌∙◌, ap, sym, subst}
+use Rattle.std.proofs.Common.{◌∙◌, ap, sym, subst}
 use Rattle.std.specs.Prelude.{IfSome}
 use Rattle.cds_http.specs.Stream.{Stream, request_in, dropped, AddsRequest}
 use Rattle.cds_http.specs.Inside.{stream_of}

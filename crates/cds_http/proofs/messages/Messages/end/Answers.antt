@@ -1,10 +1,10 @@
 -- Where only empty lines are left, no item is, and else the fault.
-use Rattle.std.proofs.Common.{◌≡◌, ◌∙◌, ◌-◌, ap, sym, subst, arith, length, length-drop, None, Some, cond, [], ◌∷◌, true}
+use Rattle.std.proofs.Common.{◌≡◌, ◌∙◌, ◌-◌, ap, subst, arith, length, length-drop, None, Some, cond, [], ◌∷◌, true}
 use Rattle.cds_http.specs.declared.next.Fault.TheVariants.{Truncated}
 use Rattle.cds_http.specs.Items.{is_only_empty_lines, fault}
 use Rattle.cds_http.specs.Stream.{Stream, ItemsFrom}
 use Rattle.cds_http.specs.Inside.{stream_of, bytes_held}
-use Rattle.cds_http.proofs.MessageLemmas.{end_blank_answer, end_blank_items, end_cut_answer, end_cut_items}
+use Rattle.cds_http.proofs.MessageLemmas.{end_cut_answer, end_cut_items}
 use Rattle.cds_http.proofs.messages.Messages.end.Goals as goal
 
 pub returns-clause-answer : goal.returns-clause-answer

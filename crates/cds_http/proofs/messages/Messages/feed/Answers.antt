@@ -1,8 +1,7 @@
 -- What was known of the bytes stays known with further bytes.
-use Rattle.std.proofs.Common.{◌≡◌, ap, sym, arith, length, drop, length-drop, Option}
-use Rattle.cds_http.specs.declared.next.Next.{Next}
-use Rattle.cds_http.specs.Stream.{Stream, kept_answer}
-use Rattle.cds_http.specs.Inside.{bytes_held, WasTold}
+use Rattle.std.proofs.Common.{ap, arith, length, drop, length-drop}
+use Rattle.cds_http.specs.Stream.{Stream}
+use Rattle.cds_http.specs.Inside.{bytes_held}
 use Rattle.cds_http.proofs.MessageLemmas.{Knows-stays, told_kept}
 use Rattle.cds_http.proofs.messages.Messages.feed.Goals as goal
 
