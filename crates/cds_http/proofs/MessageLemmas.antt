@@ -21,14 +21,14 @@ use Rattle.cds_http.specs.Lines.{lines_of, size_of, is_empty_line, HeadState, op
 use Rattle.cds_http.specs.Fields.{fields_of, expects_continue, body_length}
 use Rattle.cds_http.specs.Front.{Front, waits, fails, heads, ReadsHead, with_length, judged, IsFrontIn, IsFront}
 use Rattle.cds_http.specs.Items.{Message, message_at, Item, continue, request, fault, item_of, is_only_empty_lines, FirstItem, AreItems, AreAfter}
-use Rattle.cds_http.specs.Stream.{Stream, request_of, message_of, next_of, Decides, IfRequest, IsRequestIn, is_continue, request_in, kept_answer, room_of, answered, dropped, ItemsFrom, AddsAnswer, AddsRequest}
+use Rattle.cds_http.specs.Stream.{Stream, request_of, message_of, next_of, Decides, IfRequest, IsRequestIn, is_continue, request_in, kept_answer, room_of, answered, dropped, fed, ItemsFrom, AddsAnswer, AddsRequest}
 use Rattle.cds_http.specs.Scan.{IsScanned}
 use Rattle.cds_http.specs.Known.{Knows, KnowsAll, AnswersFront, is_blank}
 use Rattle.cds_http.specs.Inside.{WasTold}
 use Rattle.cds_http.proofs.LineLemmas.{lines_of-stays, state_on-zero}
 use Rattle.cds_http.proofs.ScanLemmas.{lines_of-rest}
 use Rattle.cds_http.proofs.StateLemmas.{head_state-long, head_state-ended, ended_not_empty}
-use Rattle.cds_http.proofs.ItemLemmas.{IsFront-stays, IsFront-size, IsFront-body, FirstItem-stays, FirstItem-unique}
+use Rattle.cds_http.proofs.ItemLemmas.{IsFront-stays, IsFront-unique, IsFront-size, IsFront-body, FirstItem-stays, FirstItem-unique}
 
 -- ---- what is known stays known when bytes are fed
 
@@ -437,3 +437,45 @@ module _ (s : Stream) (known : Known) (held : ℕ) (all : held ≡ length s.byte
         (ends_cut s.place s.bytes s.continued end_told.1 (sym (more ∙ only))),
     refl,
   )
+
+-- ---- laws of the answers
+
+pub Decides-unique : (s : Stream) (a b : Next) → Decides s a → Decides s b → a ≡ b
+Decides-unique s a b x y =
+    x.answer_is ∙ ap (next_of (length s.bytes) s.continued) (IsFront-unique s.place s.bytes x.front y.front x.is_front y.is_front) ∙ sym y.answer_is
+
+pub Decides-request_stays : (s : Stream) (piece : List ℕ) (r : Request) → Decides s (next.Request r) → Decides (fed s piece) (next.Request r)
+Decides-request_stays s piece r x = of_front x.front x.is_front x.answer_is
+  where
+    of_front : (f : Front) → IsFront s.place s.bytes f → next.Request r ≡ next_of (length s.bytes) s.continued f → Decides (fed s piece) (next.Request r)
+    of_front waits at is = absurd (cc)
+    of_front (fails f) at is = absurd (cc)
+    of_front (heads size h body) at is = by_test (expects_continue h.minor (fields_of h) body && not s.continued) refl (leb (size + body) (length s.bytes)) refl is
+      where
+        by_test : (due : Bool) → (expects_continue h.minor (fields_of h) body && not s.continued) ≡ due → (whole : Bool) → leb (size + body) (length s.bytes) ≡ whole
+            → next.Request r ≡ cond due next.Continue (cond whole (next.Request (request_of size h body)) next.More) → Decides (fed s piece) (next.Request r)
+        by_test true at' whole at'' is = absurd (cc)
+        by_test false at' true at'' is =
+            let still : leb (size + body) (length (s.bytes ++ piece)) ≡ true = grind (arith, nat_tests, length-append s.bytes piece) in
+            record {
+              front = heads size h body;
+              is_front = IsFront-stays s.place s.bytes piece (heads size h body) (λ e. cc) at;
+              answer_is = rw (at', still) is;
+            }
+        by_test false at' false at'' is = absurd (cc)
+
+pub Decides-continue_once : (s : Stream) → s.continued ≡ true → ¬ (Decides s next.Continue)
+Decides-continue_once s was x = of_front x.front x.answer_is
+  where
+    of_front : (f : Front) → next.Continue ≡ next_of (length s.bytes) s.continued f → ⊥
+    of_front waits is = cc
+    of_front (fails f) is = cc
+    of_front (heads size h body) is = by_test (expects_continue h.minor (fields_of h) body) (leb (size + body) (length s.bytes)) s.continued was is
+      where
+        by_test : (expects whole continued : Bool) → continued ≡ true
+            → next.Continue ≡ cond (expects && not continued) next.Continue (cond whole (next.Request (request_of size h body)) next.More) → ⊥
+        by_test expects whole false was is = absurd (cc)
+        by_test true true true was is = cc
+        by_test true false true was is = cc
+        by_test false true true was is = cc
+        by_test false false true was is = cc

@@ -77,3 +77,7 @@ AreItems place bytes continued ended (request m ∷ items) =
     FirstItem place bytes continued ended (Some (request m)) × AreAfter m.close items (AreItems (place + m.size) (drop m.size bytes) false ended items)
 AreItems place bytes continued ended (fault f ∷ items) =
     FirstItem place bytes continued ended (Some (fault f)) × (items ≡ [])
+
+-- the items of a whole stream, which has ended or may go on
+abbrev pub HasItems : List ℕ → Bool → List Item → Type 0
+HasItems bytes ended items = AreItems 0 bytes false ended items

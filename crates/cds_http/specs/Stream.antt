@@ -139,6 +139,10 @@ IfRequest (next.Fault f) P = ⊤
 abbrev pub ItemsFrom : Stream → List ℕ → Bool → List Item → Type 0
 ItemsFrom s more ended items = AreItems s.place (s.bytes ++ more) s.continued ended items
 
+-- further bytes that are fed are the first of those to come
+abbrev pub AddsPiece : Stream → List ℕ → Stream → Type 0
+AddsPiece s piece t = (more : List ℕ) (ended : Bool) (items : List Item) → ItemsFrom t more ended items → ItemsFrom s (piece ++ more) ended items
+
 -- What an answer adds to the items: nothing by `More`, and nothing by a request, which is added when it is dropped.
 -- The items of the stream before the answer are what it adds and then the items of the stream after it, whatever
 -- comes yet.

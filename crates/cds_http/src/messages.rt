@@ -3,7 +3,7 @@
 ghost use Rattle.std.specs.Prelude.{◌≡◌, ◌+◌, ◌-◌, ◌^◌, ◌<◌, ◌≤◌, ◌++◌, [], length, drop, false, true, Some, None, IsSome, IfSome, IfOk, MatchOption, vec_len, if◌then◌else◌};
 ghost use Rattle.std.specs.Vec.{vec_capacity};
 ghost use Rattle.cds_http.specs.Items.{is_only_empty_lines};
-ghost use Rattle.cds_http.specs.Stream.{new_stream, room_of, kept_answer, fed, fault_in, request_in, Decides, is_continue, answered, dropped, IfRequest, IsRequestIn, AddsAnswer, AddsRequest, ItemsFrom, last_items, judged_end};
+ghost use Rattle.cds_http.specs.Stream.{new_stream, room_of, kept_answer, fed, fault_in, request_in, Decides, is_continue, answered, dropped, IfRequest, IsRequestIn, AddsPiece, AddsAnswer, AddsRequest, ItemsFrom, last_items, judged_end};
 
 use crate::known::{Known, answer, is_blank, look};
 use crate::limits::MESSAGE_ROOM;
@@ -153,7 +153,8 @@ impl Messages {
         requires in_room { length piece.now ≤ room_of self.old }
         requires counted { self.old.place + length self.old.bytes + length piece.now < 2 ^ 64 }
         requires not_closed { self.old.closed ≡ false }
-        ensures { self.new ≡ fed self.old piece.now }
+        ensures after { self.new ≡ fed self.old piece.now }
+        ensures items { AddsPiece self.old piece.now self.new }
     {
         self.start = take_in(&mut self.held, self.start, piece);
         self.last = kept_answer(self.last);
