@@ -168,3 +168,9 @@ last_items (Some f) = fault f ∷ []
 abbrev pub judged_end : Stream → Option Fault → Stream
 judged_end s None = s
 judged_end s (Some f) = record s { last = Some (next.Fault f) }
+
+-- more of the stream has to come, and as much of it came as before
+pub record IsOpenAfter (s t : Stream) : Type 0 where
+  pub closed : t.closed ≡ false
+  pub asked : t.last ≡ Some next.More
+  pub total : t.place + length t.bytes ≡ s.place + length s.bytes

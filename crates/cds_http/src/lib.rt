@@ -13,8 +13,12 @@ mod limits;
 mod lines;
 mod messages;
 mod next;
+#[cfg(test)]
+mod tests;
 
-pub use laws::{continue_comes_once, decided_items_stay, one_answer, one_list_of_items, request_stays};
+pub use laws::{
+    continue_comes_once, decided_items_stay, one_answer, one_list_of_items, request_stays,
+};
 pub use limits::{MESSAGE_ROOM, MOST_BODY_BYTES, MOST_FIELDS, MOST_HEAD_BYTES, MOST_LENGTH_DIGITS};
 pub use messages::Messages;
 pub use next::{Fault, Next, Request, Span};
