@@ -122,10 +122,13 @@ drop-suc n line lines = let e : 1 + n ≡ suc n = omega arith in rw e
 from_front-cons : (at n m : ℕ) (line : List ℕ) (lines : List (List ℕ))
     → shifted (at + (length line + 1)) (from_front n m lines) ≡ shifted at (from_front (1 + n) m (line ∷ lines))
 from_front-cons at n m line lines =
-    let k = n + m in
-    let e : 1 + n + m ≡ 1 + k = omega arith in
-    let c : at + (length line + 1) + size_of (take (k + 1) lines) ≡ at + size_of (take (1 + k + 1) (line ∷ lines)) = omega (arith, size_of-take k line lines) in
-    rw (shifted-verdict, shifted-verdict, e) (same_verdict refl (sym (ltb-suc k (length lines))) c)
+    let e : 1 + n + m ≡ 1 + (n + m) = omega arith in
+    let whole = sym (ap (λ (k : ℕ). ltb k (suc (length lines))) e ∙ ltb-suc (n + m) (length lines)) in
+    let size : at + (length line + 1) + size_of (take (n + m + 1) lines) ≡ at + size_of (take (1 + n + m + 1) (line ∷ lines)) =
+    omega (arith, size_of-take (n + m) line lines, ap (λ (k : ℕ). size_of (take (k + 1) (line ∷ lines))) e) in
+    shifted-verdict (at + (length line + 1)) (ltb 65 m) (ltb (n + m) (length lines)) (size_of (take (n + m + 1) lines))
+    ∙ same_verdict refl whole size
+    ∙ sym (shifted-verdict at (ltb 65 m) (ltb (1 + n + m) (suc (length lines))) (size_of (take (1 + n + m + 1) (line ∷ lines))))
 
 -- the state by all lines is the state by those to come, before any has come
 pub state_on-start : (lines : List (List ℕ)) (at : ℕ) → state_on 0 at lines ≡ shifted at (state_of_lines lines)

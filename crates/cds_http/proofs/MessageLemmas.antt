@@ -21,7 +21,7 @@ use Rattle.cds_http.specs.Lines.{lines_of, size_of, is_empty_line, HeadState, op
 use Rattle.cds_http.specs.Fields.{fields_of, expects_continue, body_length}
 use Rattle.cds_http.specs.Front.{Front, waits, fails, heads, ReadsHead, with_length, judged, IsFrontIn, IsFront}
 use Rattle.cds_http.specs.Items.{Message, message_at, Item, continue, request, fault, item_of, is_only_empty_lines, FirstItem, AreItems, AreAfter}
-use Rattle.cds_http.specs.Stream.{Stream, request_of, message_of, next_of, Decides, IfRequest, IsRequestIn, is_continue, request_in, kept_answer, room_of, answered, dropped, fed, ItemsFrom, AddsAnswer, AddsRequest}
+use Rattle.cds_http.specs.Stream.{Stream, request_of, message_of, item_in, next_of, Decides, IfRequest, IsRequestIn, is_continue, request_in, kept_answer, room_of, answered, dropped, fed, ItemsFrom, AddsAnswer, AddsRequest}
 use Rattle.cds_http.specs.Scan.{IsScanned}
 use Rattle.cds_http.specs.Known.{Knows, KnowsAll, AnswersFront, is_blank}
 use Rattle.cds_http.specs.Inside.{WasTold}
@@ -164,13 +164,7 @@ request_lies bytes size h body fits reads =
 
 -- ---- the item that an answer is
 
-abbrev item_in : List ℕ → Next → Option Item
-item_in bytes next.More = None
-item_in bytes next.Continue = Some continue
-item_in bytes (next.Request r) = Some (request (message_of bytes r))
-item_in bytes (next.Fault f) = Some (fault f)
-
-first_item : (s : Stream) (answer : Next) → Decides s answer → FirstItem s.place s.bytes s.continued false (item_in s.bytes answer)
+pub first_item : (s : Stream) (answer : Next) → Decides s answer → FirstItem s.place s.bytes s.continued false (item_in s.bytes answer)
 first_item s answer x = record {
   front = x.front;
   is_front = x.is_front;

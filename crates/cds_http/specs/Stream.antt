@@ -8,7 +8,7 @@ use Rattle.cds_http.specs.declared.next.Next.TheVariants as next
 use Rattle.cds_http.specs.declared.next.Request.{Request}
 use Rattle.cds_http.specs.Fields.{fields_of, expects_continue, closes}
 use Rattle.cds_http.specs.Front.{Front, waits, fails, heads, IsFront}
-use Rattle.cds_http.specs.Items.{Message, Item, continue, request, fault, AreItems, AreAfter}
+use Rattle.cds_http.specs.Items.{Message, Item, continue, request, fault, FirstItem, AreItems, AreAfter}
 
 -- what is held of a stream, and what was answered of it
 pub record Stream : Type 0 where
@@ -115,6 +115,13 @@ message_of bytes r = record {
   size = r.body.end;
 }
 
+-- the item that an answer is, if it is one
+abbrev pub item_in : List ℕ → Next → Option Item
+item_in bytes next.More = None
+item_in bytes next.Continue = Some continue
+item_in bytes (next.Request r) = Some (request (message_of bytes r))
+item_in bytes (next.Fault f) = Some (fault f)
+
 -- the ranges of a request lie within the bytes, and its target is text
 pub record IsRequestIn (bytes : List ℕ) (r : Request) : Type 0 where
   pub method_ordered : r.method.start ≤ r.method.end
@@ -132,6 +139,10 @@ IfRequest next.More P = ⊤
 IfRequest next.Continue P = ⊤
 IfRequest (next.Request r) P = P r
 IfRequest (next.Fault f) P = ⊤
+
+-- the answer is the first item of the bytes held, or `More` where none is decided but an answered `Continue`
+abbrev pub TellsItem : Stream → Next → Type 0
+TellsItem s answer = FirstItem s.place s.bytes s.continued false (item_in s.bytes answer)
 
 -- ---- how the answers add up to the items of the whole stream
 

@@ -3,7 +3,7 @@
 ghost use Rattle.std.specs.Prelude.{◌≡◌, ◌+◌, ◌-◌, ◌^◌, ◌<◌, ◌≤◌, ◌++◌, [], length, drop, false, true, Some, None, IsSome, IfSome, IfOk, MatchOption, vec_len, if◌then◌else◌};
 ghost use Rattle.std.specs.Vec.{vec_capacity};
 ghost use Rattle.cds_http.specs.Items.{is_only_empty_lines};
-ghost use Rattle.cds_http.specs.Stream.{new_stream, room_of, kept_answer, fed, fault_in, request_in, Decides, is_continue, answered, dropped, IfRequest, IsRequestIn, AddsPiece, AddsAnswer, AddsRequest, ItemsFrom, last_items, judged_end};
+ghost use Rattle.cds_http.specs.Stream.{new_stream, room_of, kept_answer, fed, fault_in, request_in, Decides, TellsItem, is_continue, answered, dropped, IfRequest, IsRequestIn, AddsPiece, AddsAnswer, AddsRequest, ItemsFrom, last_items, judged_end};
 
 use crate::known::{Known, answer, is_blank, look};
 use crate::limits::MESSAGE_ROOM;
@@ -167,6 +167,7 @@ impl Messages {
     pub fn next(&mut self) -> Next
         requires { self.old.closed ≡ false }
         ensures answer { MatchOption (fault_in self.old.last) (Decides self.old result) (λ fault. result ≡ Next.Fault fault) }
+        ensures item { fault_in self.old.last ≡ None → TellsItem self.old result }
         ensures after { self.new ≡ answered self.old result }
         ensures room { result ≡ Next.More → 0 < room_of self.new }
 
