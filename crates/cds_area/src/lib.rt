@@ -12,3 +12,6 @@ mod reported;
 pub use areas::area;
 pub use heights::height;
 pub use reported::units;
+
+#[cfg(test)]
+mod tests;
