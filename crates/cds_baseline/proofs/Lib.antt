@@ -1,0 +1,4 @@
+pub mod NumberLaws
+pub mod SlopeLaws
+pub mod TangentLaws
+pub mod HullLaws

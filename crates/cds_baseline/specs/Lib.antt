@@ -1,0 +1,4 @@
+pub mod Numbers
+pub mod Chord
+pub mod Tangent
+pub mod Nodes
