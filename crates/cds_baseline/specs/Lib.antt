@@ -2,3 +2,4 @@ pub mod Numbers
 pub mod Chord
 pub mod Tangent
 pub mod Nodes
+pub mod Chain

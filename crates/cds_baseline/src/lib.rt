@@ -4,6 +4,7 @@
 //! the sample at which the tangent from a valley leaves the signal.
 #![tactic(auto)]
 
+mod hulls;
 mod slopes;
 mod tangents;
 
