@@ -192,7 +192,7 @@ chain-longer x y f s s' q next chain reached start kept same new = record {
 }
 
 -- vertices stand in the order of their points
-chain-order : (x : ℕ → ℕ) (y : ℕ → ℤ) (f : ℕ → Bool) (s : ℕ → ℕ) (q : ℕ) → IsChain x y f s q → (j d : ℕ) → j + d < q → s j ≤ s (j + d)
+pub chain-order : (x : ℕ → ℕ) (y : ℕ → ℤ) (f : ℕ → Bool) (s : ℕ → ℕ) (q : ℕ) → IsChain x y f s q → (j d : ℕ) → j + d < q → s j ≤ s (j + d)
 chain-order x y f s q chain j zero below = let e : j + 0 ≡ j = omega arith in rw e (omega arith)
 chain-order x y f s q chain j (suc d) below =
     let e : j + suc d ≡ j + d + 1 = omega arith in
@@ -367,7 +367,7 @@ right-slopes x y f s m q rising chain inside whole (suc more) j b count right wi
                 (record { le = omega (arith, ints, bend.lt) }) rest))
 
 -- a free vertex inside the chain: every chord over it in its stretch passes above it
-vertex-above : (x : ℕ → ℕ) (y : ℕ → ℤ) (f : ℕ → Bool) (s : ℕ → ℕ) (m q : ℕ) → IsRising x m → IsChain x y f s q → ((j : ℕ) → j < q → s j < m) →
+pub vertex-above : (x : ℕ → ℕ) (y : ℕ → ℤ) (f : ℕ → Bool) (s : ℕ → ℕ) (m q : ℕ) → IsRising x m → IsChain x y f s q → ((j : ℕ) → j < q → s j < m) →
     (0 < q → s (q - 1) + 1 ≡ m) → (j a b : ℕ) → j + 2 < q → f (s (j + 1)) ≡ false → a < s (j + 1) → s (j + 1) < b → b < m →
     ((k : ℕ) → a < k → k < b → f k ≡ false) → under_of x y a (s (j + 1)) b ≡ true
 vertex-above x y f s m q rising chain inside whole j a b below free left right within stretch =

@@ -2,3 +2,4 @@ pub mod NumberLaws
 pub mod SlopeLaws
 pub mod TangentLaws
 pub mod HullLaws
+pub mod NodeLaws
