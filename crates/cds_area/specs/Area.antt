@@ -1,0 +1,39 @@
+-- Heights and areas of a signal over a straight line. Both are fractions over a divisor that the line alone gives, so
+-- they are stated here as whole numbers, times that divisor. This project's own rules.
+use Rattle.std.specs.Prelude.{◌≡◌, ℕ, zero, suc, ◌+◌, ◌-◌, ◌*◌, ◌/◌, ℤ, pos, ◌+ℤ◌, ◌-ℤ◌, ◌*ℤ◌, nat_abs}
+use Rattle.cds_base.specs.declared.peak.Line.{Line}
+use Rattle.cds_base.specs.declared.peak.Ratio.{Ratio}
+use Rattle.cds_trace.specs.Signal.{Signal, sample_at}
+
+-- the fraction is the number num / den: their cross products agree
+abbrev pub IsRatio : Ratio → ℤ → ℕ → Type 0
+IsRatio ratio num den = ratio.num *ℤ pos den ≡ num *ℤ pos ratio.den
+
+-- how many samples lie from one end of a line to the other
+abbrev pub span : Line → ℕ
+span line = line.to - line.from
+
+-- the level of a line at sample i, times its span: each end counts by the distance of i from the other end
+abbrev pub level_by_span : Line → ℕ → ℤ
+level_by_span line i = line.from_y *ℤ pos (line.to - i) +ℤ line.to_y *ℤ pos (i - line.from)
+
+-- the height at sample i, which is the signal minus the line, times the line's span
+abbrev pub height_by_span : Signal → Line → ℕ → ℤ
+height_by_span signal line i = sample_at signal i *ℤ pos (span line) -ℤ level_by_span line i
+
+-- the sum of f over `count` indices in a row, the first of which is `start`
+abbrev pub sum_over : (ℕ → ℤ) → ℕ → ℕ → ℤ
+sum_over f start zero = pos 0
+sum_over f start (suc count) = sum_over f start count +ℤ f (start + count)
+
+-- the trapezoid from sample i to sample i + 1, which is half of the heights at both, times twice the line's span
+abbrev pub trapezoid : Signal → Line → ℕ → ℤ
+trapezoid signal line i = height_by_span signal line i +ℤ height_by_span signal line (i + 1)
+
+-- the area from sample start to sample end, times twice the line's span: the sum of the trapezoids between them
+abbrev pub area_by_double_span : Signal → Line → ℕ → ℕ → ℤ
+area_by_double_span signal line start end = sum_over (trapezoid signal line) start (end - start)
+
+-- the reported area of an area that isn't negative: area * period / 1000, rounded down
+abbrev pub units_of : Ratio → ℕ → ℕ
+units_of area period = nat_abs area.num * period / (1000 * area.den)

@@ -1,0 +1,5 @@
+pub mod NumberLaws
+pub mod SlopeLaws
+pub mod TangentLaws
+pub mod HullLaws
+pub mod NodeLaws

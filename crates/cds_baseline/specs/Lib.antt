@@ -1,0 +1,5 @@
+pub mod Numbers
+pub mod Chord
+pub mod Tangent
+pub mod Nodes
+pub mod Chain

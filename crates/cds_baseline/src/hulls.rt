@@ -1,0 +1,129 @@
+ghost use Rattle.std.specs.Prelude.{◌≡◌, ◌+◌, ◌-◌, ◌<◌, ◌≤◌, false, IfOk, length, int_lt, pos, ◌*ℤ◌, ◌+ℤ◌};
+ghost use Rattle.std.specs.Vec.{vec_len};
+ghost use Rattle.cds_baseline.specs.Nodes.{sample_of, is_fixed};
+ghost use Rattle.cds_baseline.specs.Chain.{level_of, vertex, under_of, IsRising, IsPoints, IsChain, IsReached, is_top_hidden};
+
+use cds_base::NoMemory;
+use std::alloc::Global;
+
+/// A point of a cluster: its sample and the level there.
+#[derive(Clone, Copy)]
+struct Point {
+    sample: u32,
+    level: i32,
+}
+
+/// A level times a number of samples.
+fn product(level: i32, samples: u32) -> i64
+    ensures { result ≡ level *ℤ pos samples }
+{
+    i64::from(level) * i64::from(samples)
+}
+
+/// The sum of two products.
+fn sum(left: i64, right: i64) -> i128
+    ensures { result ≡ left +ℤ right }
+{
+    i128::from(left) + i128::from(right)
+}
+
+/// Whether the chord from `a` to `b` passes above `i`.
+fn is_below(a: Point, i: Point, b: Point) -> bool
+    requires left { a.sample ≤ i.sample }
+    requires right { i.sample ≤ b.sample }
+    ensures { result ≡ int_lt (i.level *ℤ pos (b.sample - a.sample)) (a.level *ℤ pos (b.sample - i.sample) +ℤ b.level *ℤ pos (i.sample - a.sample)) }
+{
+    let chord = sum(
+        product(a.level, b.sample - i.sample),
+        product(b.level, i.sample - a.sample),
+    );
+    i128::from(product(i.level, b.sample - a.sample)) < chord
+}
+
+/// Point `i`.
+fn point_at(points: &[u32], levels: &[i32], i: usize) -> Point
+    requires within { i < length points.now }
+    requires levels { length levels.now ≡ length points.now }
+    ensures sample { result.sample ≡ sample_of points.now i }
+    ensures level { result.level ≡ level_of levels.now i }
+{
+    Point {
+        sample: points[i],
+        level: levels[i],
+    }
+}
+
+/// Whether the chord from point `a` to point `b` passes above point `i`.
+fn passes_above(points: &[u32], levels: &[i32], a: usize, i: usize, b: usize) -> bool
+    requires left { a < i }
+    requires right { i < b }
+    requires within { b < length points.now }
+    requires levels { length levels.now ≡ length points.now }
+    requires rising { IsRising (sample_of points.now) (length points.now) }
+    ensures { result ≡ under_of (sample_of points.now) (level_of levels.now) a i b }
+{
+    let first = point_at(points, levels, a);
+    let middle = point_at(points, levels, i);
+    let last = point_at(points, levels, b);
+    is_below(first, middle, last)
+}
+
+/// Whether the last of the first `count` vertices of the chain is left out by the chord from the one before it to the
+/// point `next`.
+fn is_top_hidden(
+    chain: &[usize],
+    count: usize,
+    next: usize,
+    points: &[u32],
+    levels: &[i32],
+    fixed: &[bool],
+) -> bool
+    requires points { IsPoints points.now levels.now fixed.now }
+    requires chain { IsChain (sample_of points.now) (level_of levels.now) (is_fixed fixed.now) (vertex chain.now) count }
+    requires reached { IsReached (sample_of points.now) (level_of levels.now) (is_fixed fixed.now) (vertex chain.now) count next }
+    requires within { next < length points.now }
+    requires count { count ≤ length chain.now }
+    ensures { result ≡ is_top_hidden (sample_of points.now) (level_of levels.now) (is_fixed fixed.now) (vertex chain.now) count next }
+{
+    if count < 2 {
+        return false;
+    }
+    let top = chain[count - 1];
+    if fixed[top] {
+        return false;
+    }
+    !passes_above(points, levels, chain[count - 2], top, next)
+}
+
+/// How many vertices of the chain stay when the point `next` is added: the others are left out by the chord to it.
+fn kept(chain: &[usize], next: usize, points: &[u32], levels: &[i32], fixed: &[bool]) -> usize
+    requires points { IsPoints points.now levels.now fixed.now }
+    requires chain { IsChain (sample_of points.now) (level_of levels.now) (is_fixed fixed.now) (vertex chain.now) (length chain.now) }
+    requires reached { IsReached (sample_of points.now) (level_of levels.now) (is_fixed fixed.now) (vertex chain.now) (length chain.now) next }
+    requires within { next < length points.now }
+    ensures few { result ≤ length chain.now }
+    ensures some { 0 < length chain.now → 0 < result }
+    ensures reached { IsReached (sample_of points.now) (level_of levels.now) (is_fixed fixed.now) (vertex chain.now) result next }
+    ensures bends { is_top_hidden (sample_of points.now) (level_of levels.now) (is_fixed fixed.now) (vertex chain.now) result next ≡ false }
+{
+    let mut count = chain.len();
+    while is_top_hidden(chain, count, next, points, levels, fixed) {
+        count -= 1;
+    }
+    count
+}
+
+/// The chain over all points: their numbers, in order.
+fn chain_over(alloc: Global, points: &[u32], levels: &[i32], fixed: &[bool]) -> Result<Vec<usize>, NoMemory>
+    requires points { IsPoints points.now levels.now fixed.now }
+    ensures chain { IfOk result (λ c. IsChain (sample_of points.now) (level_of levels.now) (is_fixed fixed.now) (vertex c.items) (vec_len c)) }
+    ensures whole { IfOk result (λ c. 0 < length points.now → (0 < vec_len c) × (vertex c.items (vec_len c - 1) + 1 ≡ length points.now)) }
+{
+    let mut chain = Vec::with_capacity(alloc, points.len())?;
+    for next in 0..points.len() {
+        let count = kept(chain.as_slice(), next, points, levels, fixed);
+        chain.truncate(count);
+        chain.push(next)?;
+    }
+    Ok(chain)
+}
