@@ -1,1 +1,4 @@
 pub mod Kept
+pub mod Squares
+pub mod Spread
+pub mod Differ
