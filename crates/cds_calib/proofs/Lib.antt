@@ -2,3 +2,5 @@ pub mod Kept
 pub mod Squares
 pub mod Spread
 pub mod Differ
+pub mod Weighted
+pub mod Multiple

@@ -1,3 +1,4 @@
 pub mod Points
 pub mod Sums
 pub mod Line
+pub mod Fit
