@@ -3,4 +3,5 @@ pub mod Squares
 pub mod Spread
 pub mod Differ
 pub mod Weighted
-pub mod Multiple
+pub mod LeastMultiple
+pub mod LineLaws

@@ -1,15 +1,16 @@
 -- How the divisor of the weighted line grows with a further point, with the common multiple m of the amounts fixed.
-use Rattle.std.proofs.Common.{◌≡◌, ℕ, zero, suc, ◌+◌, ◌-◌, ◌*◌, ◌/◌, ◌<◌, ◌≤◌, Bool, true, false, not, ◌||◌, eqb, List, [], ◌∷◌, length, refl, sym, ap, ◌∙◌, subst, arith, inl, inr, ◌⊎◌, mul-pos}
+use Rattle.std.proofs.Common.{◌≡◌, ℕ, zero, suc, ◌+◌, ◌-◌, ◌*◌, ◌/◌, ◌^◌, ◌<◌, ◌≤◌, Bool, true, false, not, ◌||◌, eqb, List, [], ◌∷◌, length, refl, sym, ap, ◌∙◌, subst, arith, inl, inr, ◌⊎◌, mul-pos}
 use Rattle.std.specs.List.{sum_by, list_any, All}
 use Rattle.std.specs.Int.{◌∣◌}
-use Rattle.std.proofs.Math.Nat.{div-mul_cancel, mul-le-mul_left, mul-le-mul_right, mul-lt-mul_of_pos_right, eq_of_mul-eq-mul_left}
+use Rattle.std.proofs.Math.Nat.{div-mul_cancel, div-le_self, mul-le-mul, mul-le-mul_left, mul-le-mul_right, mul-lt-mul_of_pos_right, eq_of_mul-eq-mul_left}
 use Rattle.std.proofs.lemmas.List.Sums.{sum_by-cons}
 use Rattle.std.proofs.lemmas.List.Elements.{All-head, All-tail}
 use Rattle.std.proofs.lemmas.Bool.{cases_lt, eqb-false, false≢true}
 use Rattle.cds_calib.specs.declared.point.Point.{Point}
-use Rattle.cds_calib.specs.Points.{sum_x}
+use Rattle.cds_calib.specs.Points.{IsCalibration, sum_x}
 use Rattle.cds_calib.specs.Line.{differ}
-use Rattle.cds_calib.specs.Fit.{sum_w, weighted_divisor}
+use Rattle.cds_calib.specs.Fit.{sum_w, sum_wy, weighted_divisor}
+use Rattle.cds_calib.proofs.Kept.{sum_by-few}
 use Rattle.cds_calib.proofs.Squares.{gap, product_unlike}
 use Rattle.cds_calib.proofs.Differ.{other_than}
 
@@ -122,3 +123,17 @@ weighted_divisor_pos m [] some all two = absurd (false≢true two)
 weighted_divisor_pos m (p ∷ points) some all two =
     let grown = some_crossed m (m / p.amount) p.amount points some (weight-times m p (All-head (Shares m) p points all)) (All-tail (Shares m) p points all) two in
     rw (weighted_divisor-cons m p points all) (omega (arith, grown))
+
+-- a quotient is at most the number
+weight_le : (m limit a : ℕ) → m ≤ limit → m / a ≤ limit
+weight_le m limit a le = let smaller = div-le_self m a in omega (arith, smaller)
+
+-- the sum of the weights is small
+pub sum_w-small : (m : ℕ) (points : List Point) → IsCalibration points → m < 2 ^ 60 → sum_w m points < 2 ^ 66
+sum_w-small m points is below = omega (arith, sum_by-few (λ p. m / p.amount) (2 ^ 60 - 1) points is (λ p at. weight_le m (2 ^ 60 - 1) p.amount (omega arith)))
+
+-- the sum of the weighted areas is small
+pub sum_wy-small : (m : ℕ) (points : List Point) → IsCalibration points → m < 2 ^ 60 → sum_wy m points < 2 ^ 118
+sum_wy-small m points is below =
+    omega (arith, sum_by-few (λ p. m / p.amount * p.area) ((2 ^ 60 - 1) * (2 ^ 52 - 1)) points is
+      (λ p at. mul-le-mul {n₁ = m / p.amount} {m₁ = p.area} {n₂ = 2 ^ 60 - 1} {m₂ = 2 ^ 52 - 1} (weight_le m (2 ^ 60 - 1) p.amount (omega arith)) (let a = at.area in omega arith)))

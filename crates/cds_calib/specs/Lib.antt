@@ -2,3 +2,5 @@ pub mod Points
 pub mod Sums
 pub mod Line
 pub mod Fit
+pub mod Amount
+pub mod Determination

@@ -3,9 +3,13 @@
 //! Begin at [`Points`]: it keeps the points of one component in their order.
 #![tactic(auto)]
 
+mod corrected;
+mod fit;
+mod multiple;
 mod point;
 mod points;
 mod sums;
 
+pub use fit::Fit;
 pub use point::{AREA_LIMIT, MOST_AMOUNT, MOST_POINTS, Point};
 pub use points::Points;

@@ -1,5 +1,6 @@
 ghost use Rattle.std.specs.Prelude.{◌≡◌, ◌*◌, ◌<◌, ◌≤◌, [], IfOk, length, insert, remove};
 ghost use Rattle.cds_calib.specs.Points.{IsCalibration};
+ghost use Rattle.cds_calib.specs.Sums.{sums_of, IsSmall};
 
 use crate::point::{AREA_LIMIT, MOST_AMOUNT, MOST_POINTS, Point};
 use crate::sums::Sums;
@@ -69,6 +70,23 @@ impl Points {
         ensures shape { IsCalibration self.now }
     {
         self.items.as_slice()
+    }
+
+    /// The plain sums of the points.
+    pub(crate) fn sums(&self) -> Sums
+        ensures sums { result ≡ sums_of self.now }
+        ensures small { IsSmall result }
+        ensures shape { IsCalibration self.now }
+    {
+        self.sums
+    }
+
+    /// How many points there are, as a term of the sums.
+    pub(crate) fn count(&self) -> u128
+        ensures count { result ≡ length self.now }
+        ensures few { result ≤ 64 }
+    {
+        self.items.len() as u128
     }
 
     /// How many points there are.

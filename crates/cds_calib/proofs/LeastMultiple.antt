@@ -6,6 +6,7 @@ use Rattle.std.proofs.Math.Nat.{dvd_trans, dvd-mul_left, dvd-mul_right, dvd_of_m
 use Rattle.std.proofs.lemmas.Bool.{eqb-true, eq-eqb, ne_eqb, false≢true}
 use Rattle.std.proofs.lemmas.List.Sums.{AllPass-from_list_all, list_all-from_AllPass}
 use Rattle.std.proofs.lemmas.List.Elements.{All-nil, All-head, All-tail, All-cons, All-weaker, All-more, All-take, All-get_or}
+use Rattle.std.proofs.lemmas.List.{take_more, take_all}
 use Rattle.cds_frac.specs.Divisors.{IsLcm, least_from}
 use Rattle.cds_frac.proofs.Coprime.{exists_gcd, IsLcm-product}
 use Rattle.cds_frac.proofs.LowestTerms.{least_from-is}
@@ -101,3 +102,44 @@ pub Shares-common_multiple : (points : List Point) (m : ℕ) → All IsPoint poi
 Shares-common_multiple points m all is =
     let least : IsLeast m points = subst (λ k. IsLeast k points) (sym is) (IsLeast-common_multiple points all) in
     (least.some, λ k d within. record { some = let here = all k d within in here.some; divides = least.multiple k d within })
+
+-- of no amount it is 1
+pub IsLeast-nil : IsLeast 1 []
+IsLeast-nil = record { some = omega arith; multiple = All-nil (λ q. q.amount ∣ 1); least = λ k h. one-dvd k }
+
+-- what holds of a list with one element more holds of the list and of that element
+All_front : (P : Point → Type 0) (xs : List Point) (y : Point) → All P (xs ++ y ∷ []) → All P xs × P y
+All_front P [] y all = (All-nil P, All-head P y [] all)
+All_front P (x ∷ xs) y all =
+    let rest : All P xs × P y = All_front P xs y (All-tail P x (xs ++ y ∷ []) all) in
+    (All-cons P x xs (All-head P x (xs ++ y ∷ []) all) rest.0, rest.1)
+
+-- one amount more in a loop
+pub IsLeast-more : (m l a i : ℕ) (points : List Point) (d : Point) → IsLeast m (take i points) → i < length points → All IsPoint points → a ≡ (get_or points i d).amount → IsLcm m a l → IsLeast l (take (i + 1) points)
+IsLeast-more m l a i points d is within all read both =
+    let p : Point = get_or points i d in
+    let here : IsPoint p = All-get_or IsPoint points i d within all in
+    let a_some : 0 < a = subst (λ n. 0 < n) (sym read) here.some in
+    let grown : take (i + 1) points ≡ take i points ++ p ∷ [] = take_more points i d within in
+    record {
+      some = pos_of_dvd_of_pos (both.2 (m * a) (dvd-mul_right m a) (dvd-mul_left a m)) (mul-pos is.some a_some);
+      multiple = All-more (λ q. q.amount ∣ l) points i d within (All-weaker (λ q. q.amount ∣ m) (λ q. q.amount ∣ l) (λ q h. dvd_trans q.amount h both.0) (take i points) is.multiple) (subst (λ n. n ∣ l) read both.1);
+      least = λ k every.
+        let parts : IsMultiple k (take i points) × (p.amount ∣ k) = All_front (λ q. q.amount ∣ k) (take i points) p (subst (IsMultiple k) grown every) in
+        both.2 k (is.least k parts.0) (subst (λ n. n ∣ k) (sym read) parts.1);
+    }
+
+-- where one amount more passes the limit, all do
+pub multiple_past : (m a i limit : ℕ) (points : List Point) (d : Point) → IsLeast m (take i points) → i < length points → All IsPoint points → a ≡ (get_or points i d).amount → ((l : ℕ) → IsLcm m a l → limit ≤ l) → limit ≤ common_multiple points
+multiple_past m a i limit points d is within all read past =
+    let here : IsPoint (get_or points i d) = All-get_or IsPoint points i d within all in
+    let both : (l : ℕ) × (0 < l) × IsLcm m a l = exists_lcm m a is.some (subst (λ n. 0 < n) (sym read) here.some) in
+    let more : IsLeast both.0 (take (i + 1) points) = IsLeast-more m both.0 a i points d is within all read both.2 in
+    let whole : IsLeast (common_multiple points) points = IsLeast-common_multiple points all in
+    let le : both.0 ≤ common_multiple points = le_of_dvd whole.some (more.least (common_multiple points) (All-take (λ q. q.amount ∣ common_multiple points) (i + 1) points whole.multiple)) in
+    let far : limit ≤ both.0 = past both.0 both.2 in
+    omega arith
+
+-- at the end of the loop
+pub common_multiple_all : (m i : ℕ) (points : List Point) → All IsPoint points → IsLeast m (take i points) → length points ≤ i → m ≡ common_multiple points
+common_multiple_all m i points all is past = sym (common_multiple-is points m all (subst (IsLeast m) (take_all i points past) is))
