@@ -5,3 +5,4 @@ pub mod Differ
 pub mod Weighted
 pub mod LeastMultiple
 pub mod LineLaws
+pub mod Dilution

@@ -11,6 +11,10 @@ use Rattle.cds_calib.specs.Fit.{CalibrationLine}
 abbrev pub above_intercept : CalibrationLine → ℕ → ℤ
 above_intercept line y = pos (y * line.divisor) -ℤ line.intercept
 
+-- (y - a) / b, in lowest terms
+abbrev pub undiluted : CalibrationLine → ℕ → Fraction
+undiluted line y = lowest_terms (above_intercept line y) line.slope
+
 -- (y - a) / b * u / v, in lowest terms
 abbrev pub diluted : CalibrationLine → ℕ → ℕ → ℕ → Fraction
 diluted line y u v = lowest_terms (above_intercept line y *ℤ pos u) (line.slope * v)

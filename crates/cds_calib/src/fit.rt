@@ -2,6 +2,7 @@ ghost use Rattle.std.specs.Prelude.{◌≡◌, ◌*◌, ◌^◌, ◌<◌, pos, �
 ghost use Rattle.std.specs.Option.{SomeIff};
 ghost use Rattle.cds_frac.specs.Fraction.{lowest_terms};
 ghost use Rattle.cds_calib.specs.Line.{differ};
+ghost use Rattle.cds_calib.specs.Amount.{undiluted, undiluted_fits};
 ghost use Rattle.cds_calib.specs.Fit.{fit_of, IsFit, common_multiple, weights_fit, rising, inverse_line};
 
 use cds_base::Missing;
@@ -49,6 +50,22 @@ impl Fit {
         ensures shape { IsFit self.now }
     {
         Frac::new(self.intercept, self.divisor as i128)
+    }
+
+    /// The amount of an area before the dilution, (y - a) / b. None exactly where y D, or y D less the numerator of
+    /// the intercept, is `PART_LIMIT`, 2^126, or more in absolute value, D being the divisor.
+    pub(crate) fn undiluted(&self, area: u64) -> Option<Frac>
+        requires { area < 2 ^ 52 }
+        ensures number { SomeIff result (IsTrue (undiluted_fits self.now.weight self.now area)) (undiluted self.now area) }
+        ensures shape { IsFit self.now }
+    {
+        let scaled = product_below_limit(u128::from(area), self.divisor)?;
+        let above = scaled as i128 - self.intercept;
+        if above.unsigned_abs() < PART_LIMIT {
+            Some(Frac::new(above, self.slope as i128))
+        } else {
+            None
+        }
     }
 }
 

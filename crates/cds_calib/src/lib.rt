@@ -3,6 +3,7 @@
 //! Begin at [`Points`]: it keeps the points of one component in their order.
 #![tactic(auto)]
 
+mod amounts;
 mod corrected;
 mod fit;
 mod multiple;
@@ -10,6 +11,7 @@ mod point;
 mod points;
 mod sums;
 
+pub use amounts::amount;
 pub use fit::Fit;
 pub use point::{AREA_LIMIT, MOST_AMOUNT, MOST_POINTS, Point};
 pub use points::Points;
