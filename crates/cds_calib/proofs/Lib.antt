@@ -6,3 +6,4 @@ pub mod Weighted
 pub mod LeastMultiple
 pub mod LineLaws
 pub mod Dilution
+pub mod Reached

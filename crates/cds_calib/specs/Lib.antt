@@ -4,3 +4,4 @@ pub mod Line
 pub mod Fit
 pub mod Amount
 pub mod Determination
+pub mod Spread

@@ -11,6 +11,7 @@ use cds_rules::Weight;
 use std::marker::Model;
 
 use crate::multiple::{common_multiple, weighted_sums};
+use crate::point::AREA_LIMIT;
 use crate::points::Points;
 
 /// A straight line through the points of a calibration, by least squares. Seen as its weight, its divisor and the
@@ -55,7 +56,7 @@ impl Fit {
     /// The amount of an area before the dilution, (y - a) / b. None exactly where y D, or y D less the numerator of
     /// the intercept, is `PART_LIMIT`, 2^126, or more in absolute value, D being the divisor.
     pub(crate) fn undiluted(&self, area: u64) -> Option<Frac>
-        requires { area < 2 ^ 52 }
+        requires { area < AREA_LIMIT }
         ensures number { SomeIff result (IsTrue (undiluted_fits self.now.weight self.now area)) (undiluted self.now area) }
         ensures shape { IsFit self.now }
     {

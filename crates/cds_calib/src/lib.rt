@@ -5,6 +5,7 @@
 
 mod amounts;
 mod corrected;
+mod determination;
 mod fit;
 mod multiple;
 mod point;
