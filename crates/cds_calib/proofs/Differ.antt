@@ -1,12 +1,12 @@
 -- Two amounts differ exactly where the corrected sum of their squares is above 0.
-use Rattle.std.proofs.Common.{◌≡◌, ℕ, suc, ◌+◌, ◌-◌, ◌*◌, ◌<◌, ◌≤◌, Bool, true, false, not, ◌||◌, eqb, ltb, List, [], ◌∷◌, length, refl, sym, ap, ◌∙◌, subst, arith, mul-pos}
-use Rattle.std.specs.List.{sum_by, list_any}
+use Rattle.std.proofs.Common.{◌≡◌, ℕ, ◌+◌, ◌*◌, ◌<◌, ◌≤◌, Bool, true, false, not, ◌||◌, eqb, ltb, List, [], ◌∷◌, refl, sym, ap, subst, arith, mul-pos}
+use Rattle.std.specs.List.{list_any}
 use Rattle.std.proofs.lemmas.List.Sums.{sum_by-cons}
 use Rattle.std.proofs.lemmas.Bool.{eqb-true, eqb-false, lt-ltb, le-ltb, false≢true}
 use Rattle.cds_calib.specs.declared.point.Point.{Point}
 use Rattle.cds_calib.specs.Line.{differ, corrected_xx}
 use Rattle.cds_calib.proofs.Squares.{gap}
-use Rattle.cds_calib.proofs.Spread.{gaps, gaps_is, corrected, corrected-cons}
+use Rattle.cds_calib.proofs.Spread.{gaps, corrected, corrected-cons}
 
 abbrev amount_of : Point → ℕ
 amount_of p = p.amount

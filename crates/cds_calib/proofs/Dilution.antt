@@ -1,9 +1,8 @@
 -- The amount by way of the number before the dilution.
-use Rattle.std.proofs.Common.{◌≡◌, ℕ, ◌*◌, ◌^◌, ◌<◌, ◌≤◌, Bool, true, false, ◌&&◌, cond, ltb, Option, Some, None, Result, Ok, Err, ℤ, pos, ◌*ℤ◌, unsigned_abs, refl, sym, ap, ap₂, ◌∙◌, subst, arith, mul-pos, inl, inr}
+use Rattle.std.proofs.Common.{◌≡◌, ℕ, ◌*◌, ◌^◌, ◌<◌, ◌≤◌, Bool, true, false, ◌&&◌, cond, ltb, Option, Some, None, Ok, Err, ℤ, pos, ◌*ℤ◌, unsigned_abs, sym, ap, ap₂, ◌∙◌, subst, mul-pos, inl, inr}
 use Rattle.std.specs.Option.{SomeIff}
 use Rattle.std.specs.Prelude.{ok_or}
 use Rattle.std.proofs.lemmas.Bool.{cases_lt, lt-ltb, le-ltb}
-use Rattle.cds_base.specs.declared.peak.Missing.{Missing}
 use Rattle.cds_base.specs.declared.peak.Missing.TheVariants.{Unfit}
 use Rattle.cds_frac.specs.Fraction.{Fraction, IsReduced, IsInRange, lowest_terms}
 use Rattle.cds_frac.specs.FractionLaws.{times-times, times_right_comm}
@@ -31,11 +30,11 @@ parts_fit-true f is = ap₂ (λ a b. a && b) (lt-ltb (unsigned_abs f.num) (2 ^ 1
 parts_fit-false : (f : Fraction) → (IsInRange f → ⊥) → parts_fit f ≡ false
 parts_fit-false f past =
     elim (cases_lt (unsigned_abs f.num) (2 ^ 126)) [
-      inl a ↦ elim (cases_lt f.den (2 ^ 126)) [
-        inl b ↦ absurd (past (a, b))
-      | inr b ↦ ap₂ (λ a b. a && b) (lt-ltb (unsigned_abs f.num) (2 ^ 126) a) (le-ltb f.den (2 ^ 126) b)
+      | inl a ↦ elim (cases_lt f.den (2 ^ 126)) [
+        | inl b ↦ absurd (past (a, b))
+        | inr b ↦ ap₂ (λ a b. a && b) (lt-ltb (unsigned_abs f.num) (2 ^ 126) a) (le-ltb f.den (2 ^ 126) b)
       ]
-    | inr a ↦ ap (λ c. c && ltb f.den (2 ^ 126)) (le-ltb (unsigned_abs f.num) (2 ^ 126) a)
+      | inr a ↦ ap (λ c. c && ltb f.den (2 ^ 126)) (le-ltb (unsigned_abs f.num) (2 ^ 126) a)
     ]
 
 -- the amount where the product is in range, and Unfit where it isn't

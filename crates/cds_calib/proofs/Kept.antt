@@ -1,5 +1,5 @@
 -- That the kept sums follow the list, and stay small.
-use Rattle.std.proofs.Common.{◌≡◌, ℕ, suc, ◌+◌, ◌-◌, ◌*◌, ◌^◌, ◌<◌, ◌≤◌, List, [], ◌∷◌, ◌++◌, length, get_or, refl, sym, ap, ◌∙◌, subst, arith, add_comm}
+use Rattle.std.proofs.Common.{◌≡◌, ℕ, suc, ◌+◌, ◌*◌, ◌<◌, ◌≤◌, List, length, get_or, sym, ap, ◌∙◌, subst, arith}
 use Rattle.std.specs.List.{All, sum_by, insert, remove}
 use Rattle.std.proofs.Math.Nat.{mul-le-mul}
 use Rattle.std.proofs.lemmas.List.Sums.{sum_by-le, sum_by-insert, sum_by-remove, get_or-le-sum_by}
@@ -7,7 +7,7 @@ use Rattle.std.proofs.lemmas.List.Elements.{All-weaker, All-append, All-cons, Al
 use Rattle.std.proofs.lemmas.List.Edits.{length-insert, length-remove}
 use Rattle.cds_calib.specs.declared.point.Point.{Point}
 use Rattle.cds_calib.specs.declared.sums.Sums.{Sums}
-use Rattle.cds_calib.specs.Points.{IsPoint, IsCalibration, sum_x, sum_y, sum_xx, sum_xy, sum_yy}
+use Rattle.cds_calib.specs.Points.{IsPoint, IsCalibration}
 use Rattle.cds_calib.specs.Sums.{with_point, sums_of, IsSmall, HasPoint, IsKept}
 
 -- a sum over the points of a calibration is at most 64 times a bound of its terms

@@ -1,13 +1,13 @@
 -- The least common multiple of the amounts, one amount after another.
-use Rattle.std.proofs.Common.{◌≡◌, ℕ, zero, suc, ◌+◌, ◌-◌, ◌*◌, ◌/◌, ◌%◌, ◌^◌, ◌<◌, ◌≤◌, Bool, true, false, eqb, List, [], ◌∷◌, ◌++◌, length, get_or, take, refl, sym, ap, ◌∙◌, subst, arith, mul-pos}
-use Rattle.std.specs.List.{All, list_all, fold}
+use Rattle.std.proofs.Common.{◌≡◌, ℕ, zero, suc, ◌+◌, ◌*◌, ◌/◌, ◌%◌, ◌<◌, ◌≤◌, Bool, true, false, eqb, List, [], ◌∷◌, ◌++◌, length, get_or, take, refl, sym, subst, arith, mul-pos}
+use Rattle.std.specs.List.{All, fold}
 use Rattle.std.specs.Int.{◌∣◌, IsGcd}
 use Rattle.std.proofs.Math.Nat.{dvd_trans, dvd-mul_left, dvd-mul_right, dvd_of_mod-eq-zero, mod-eq-zero_of_dvd, le_of_dvd, one-dvd, dvd_refl, pos_of_dvd_of_pos, div-mul_cancel}
-use Rattle.std.proofs.lemmas.Bool.{eqb-true, eq-eqb, ne_eqb, false≢true}
+use Rattle.std.proofs.lemmas.Bool.{eqb-true, eq-eqb}
 use Rattle.std.proofs.lemmas.List.Sums.{AllPass-from_list_all, list_all-from_AllPass}
 use Rattle.std.proofs.lemmas.List.Elements.{All-nil, All-head, All-tail, All-cons, All-weaker, All-more, All-take, All-get_or}
 use Rattle.std.proofs.lemmas.List.{take_more, take_all}
-use Rattle.cds_frac.specs.Divisors.{IsLcm, least_from}
+use Rattle.cds_frac.specs.Divisors.{IsLcm}
 use Rattle.cds_frac.proofs.Coprime.{exists_gcd, IsLcm-product}
 use Rattle.cds_frac.proofs.LowestTerms.{least_from-is}
 use Rattle.cds_calib.specs.declared.point.Point.{Point}
@@ -42,10 +42,10 @@ exists_lcm a b a_some b_some =
 -- one amount more
 pub IsLeast-cons : (m l : ℕ) (p : Point) (points : List Point) → IsLeast m points → 0 < l → IsLcm m p.amount l → IsLeast l (p ∷ points)
 IsLeast-cons m l p points is some both = record {
-    some = some;
-    multiple = All-cons (λ q. q.amount ∣ l) p points both.1 (All-weaker (λ q. q.amount ∣ m) (λ q. q.amount ∣ l) (λ q h. dvd_trans q.amount h both.0) points is.multiple);
-    least = λ k all. both.2 k (is.least k (All-tail (λ q. q.amount ∣ k) p points all)) (All-head (λ q. q.amount ∣ k) p points all);
-  }
+  some = some;
+  multiple = All-cons (λ q. q.amount ∣ l) p points both.1 (All-weaker (λ q. q.amount ∣ m) (λ q. q.amount ∣ l) (λ q h. dvd_trans q.amount h both.0) points is.multiple);
+  least = λ k all. both.2 k (is.least k (All-tail (λ q. q.amount ∣ k) p points all)) (All-head (λ q. q.amount ∣ k) p points all);
+}
 
 -- points within the limits have a least common multiple of their amounts
 pub exists_least : (points : List Point) → All IsPoint points → (m : ℕ) × IsLeast m points
@@ -125,8 +125,8 @@ IsLeast-more m l a i points d is within all read both =
       some = pos_of_dvd_of_pos (both.2 (m * a) (dvd-mul_right m a) (dvd-mul_left a m)) (mul-pos is.some a_some);
       multiple = All-more (λ q. q.amount ∣ l) points i d within (All-weaker (λ q. q.amount ∣ m) (λ q. q.amount ∣ l) (λ q h. dvd_trans q.amount h both.0) (take i points) is.multiple) (subst (λ n. n ∣ l) read both.1);
       least = λ k every.
-        let parts : IsMultiple k (take i points) × (p.amount ∣ k) = All_front (λ q. q.amount ∣ k) (take i points) p (subst (IsMultiple k) grown every) in
-        both.2 k (is.least k parts.0) (subst (λ n. n ∣ k) (sym read) parts.1);
+          let parts : IsMultiple k (take i points) × (p.amount ∣ k) = All_front (λ q. q.amount ∣ k) (take i points) p (subst (IsMultiple k) grown every) in
+          both.2 k (is.least k parts.0) (subst (λ n. n ∣ k) (sym read) parts.1);
     }
 
 -- where one amount more passes the limit, all do

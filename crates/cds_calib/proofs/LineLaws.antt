@@ -1,5 +1,5 @@
 -- Each answer of a line by the facts that lead to it, and the limits of its numbers.
-use Rattle.std.proofs.Common.{◌≡◌, ℕ, ◌+◌, ◌-◌, ◌*◌, ◌^◌, ◌<◌, ◌≤◌, Bool, true, false, ◌&&◌, cond, ltb, List, [], ◌∷◌, length, get_or, Result, Ok, Err, ℤ, pos, ◌-ℤ◌, unsigned_abs, refl, sym, ap, ap₂, ◌∙◌, subst, arith, mul-pos}
+use Rattle.std.proofs.Common.{◌≡◌, ℕ, ◌-◌, ◌*◌, ◌^◌, ◌<◌, ◌≤◌, Bool, true, false, ◌&&◌, cond, ltb, List, [], ◌∷◌, length, Result, Ok, Err, ℤ, pos, ◌-ℤ◌, unsigned_abs, refl, sym, ap, ap₂, ◌∙◌, subst, arith, mul-pos}
 use Rattle.std.proofs.Math.Nat.{mul-le-mul}
 use Rattle.std.proofs.lemmas.Nat.{mul-lt}
 use Rattle.std.proofs.lemmas.Bool.{lt-ltb, le-ltb}
@@ -15,7 +15,7 @@ use Rattle.cds_calib.specs.declared.sums.Sums.{Sums}
 use Rattle.cds_calib.specs.Points.{IsPoint, IsCalibration, sum_x, sum_y, sum_xx, sum_xy}
 use Rattle.cds_calib.specs.Sums.{sums_of, IsSmall}
 use Rattle.cds_calib.specs.Line.{differ, corrected_xx, corrected_xy}
-use Rattle.cds_calib.specs.Fit.{CalibrationLine, rising, equal_line, origin_line, inverse_line, weights_fit, common_multiple, weighted_divisor, sum_w, sum_wy, fit_of, IsFit}
+use Rattle.cds_calib.specs.Fit.{CalibrationLine, rising, equal_line, inverse_line, weights_fit, common_multiple, weighted_divisor, sum_w, sum_wy, fit_of, IsFit}
 use Rattle.std.specs.List.{All}
 use Rattle.cds_calib.proofs.Differ.{differ-is}
 use Rattle.cds_calib.proofs.LeastMultiple.{Shares-common_multiple}
@@ -72,18 +72,18 @@ equal-line points d s i t d_is d_some s_is s_some sums i_is =
 
 pub IsFit-equal : (d s : ℕ) (i : ℤ) (t : Sums) → d < 2 ^ 72 → (d ≡ 0 → ⊥) → s < 2 ^ 94 → (s ≡ 0 → ⊥) → IsSmall t → i ≡ (pos (t.y * t.xx) -ℤ pos (t.x * t.xy)) → IsFit (line_of Equal d s i)
 IsFit-equal d s i t d_below d_some s_below s_some small i_is = record {
-    divisor_some = omega arith;
-    slope_some = omega arith;
-    divisor_fits = d_below;
-    slope_fits = s_below;
-    intercept_fits = subst (λ z. unsigned_abs z < 2 ^ 124) (sym i_is) (abs_difference (t.y * t.xx) (t.x * t.xy) (2 ^ 124)
+  divisor_some = omega arith;
+  slope_some = omega arith;
+  divisor_fits = d_below;
+  slope_fits = s_below;
+  intercept_fits = subst (λ z. unsigned_abs z < 2 ^ 124) (sym i_is) (abs_difference (t.y * t.xx) (t.x * t.xy) (2 ^ 124)
       (mul-lt t.y t.xx (2 ^ 58) (2 ^ 66) small.y small.xx)
       (mul-lt t.x t.xy (2 ^ 36) (2 ^ 88) small.x small.xy));
-  }
+}
 
 -- ---- through the origin
 
-sum_xx_pos : (points : List Point) → IsCalibration points → (length points ≡ 0 → ⊥) → 0 < sum_xx points
+sum_xx_pos : (points : List Point) → IsCalibration points → (points ≡ [] → ⊥) → 0 < sum_xx points
 sum_xx_pos [] is some = absurd (some refl)
 sum_xx_pos (p ∷ points) is some =
     let within : 0 < length (p ∷ points) = omega arith in
@@ -92,14 +92,14 @@ sum_xx_pos (p ∷ points) is some =
     let le : p.amount * p.amount ≤ sum_xx (p ∷ points) = get_or-le-sum_by (λ q. q.amount * q.amount) (p ∷ points) 0 p within in
     omega arith
 
-pub IsFit-origin : (points : List Point) (n : ℕ) (t : Sums) → IsCalibration points → n ≡ length points → (n ≡ 0 → ⊥) → t ≡ sums_of points → IsSmall t → (t.xy ≡ 0 → ⊥) → IsFit (line_of Origin t.xx t.xy (pos 0))
-IsFit-origin points n t is count some sums small rises = record {
-    divisor_some = subst (λ u. 0 < u.xx) (sym sums) (sum_xx_pos points is (λ e. some (count ∙ e)));
-    slope_some = omega arith;
-    divisor_fits = small.xx;
-    slope_fits = small.xy;
-    intercept_fits = omega arith;
-  }
+pub IsFit-origin : (points : List Point) (t : Sums) → IsCalibration points → (points ≡ [] → ⊥) → t ≡ sums_of points → IsSmall t → (t.xy ≡ 0 → ⊥) → IsFit (line_of Origin t.xx t.xy (pos 0))
+IsFit-origin points t is some sums small rises = record {
+  divisor_some = subst (λ u. 0 < u.xx) (sym sums) (sum_xx_pos points is some);
+  slope_some = omega arith;
+  divisor_fits = small.xx;
+  slope_fits = small.xy;
+  intercept_fits = omega arith;
+}
 
 -- ---- weighted by the inverse of the amount
 
@@ -149,14 +149,14 @@ pub record Parts (points : List Point) (m n k w wy x y : ℕ) : Type 0 where
 -- the parts from what the code's calls ensure, of the points and of the same points as a slice
 pub Parts-from_calls : (points items : List Point) (m n k w wy : ℕ) (t : Sums) → IsCalibration points → m ≡ common_multiple points → n ≡ length points → k ≡ m → items ≡ points → w ≡ sum_w m items → wy ≡ sum_wy m items → t ≡ sums_of points → Parts points m n k w wy t.x t.y
 Parts-from_calls points items m n k w wy t is multiple count same slice weights weighted sums = record {
-    shares = Shares-common_multiple points m is.within multiple;
-    count = count;
-    multiple = same;
-    weights = weights ∙ ap (sum_w m) slice;
-    weighted = weighted ∙ ap (sum_wy m) slice;
-    amounts = ap (λ u. u.x) sums;
-    areas = ap (λ u. u.y) sums;
-  }
+  shares = Shares-common_multiple points m is.within multiple;
+  count = count;
+  multiple = same;
+  weights = weights ∙ ap (sum_w m) slice;
+  weighted = weighted ∙ ap (sum_wy m) slice;
+  amounts = ap (λ u. u.x) sums;
+  areas = ap (λ u. u.y) sums;
+}
 
 divisor_parts : (points : List Point) (m n k w wy x y : ℕ) → Parts points m n k w wy x y → (n * n * k ≡ length points * length points * m) × (w * x ≡ sum_w m points * sum_x points)
 divisor_parts points m n k w wy x y is = (ap₂ (λ a b. a * a * b) is.count is.multiple, ap₂ (λ a b. a * b) is.weights is.amounts)

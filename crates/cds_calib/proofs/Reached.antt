@@ -1,11 +1,10 @@
 -- A coefficient of determination by comparing two fractions, and the search for the greatest one that is reached.
-use Rattle.std.proofs.Common.{◌≡◌, ℕ, zero, suc, ◌+◌, ◌-◌, ◌*◌, ◌<◌, ◌≤◌, Bool, true, false, not, cond, eqb, ltb, leb, List, length, Result, Ok, Err, ℤ, pos, ◌*ℤ◌, int_cmp, Ordering, Less, Equal, Greater, refl, sym, ap, ap₂, ◌∙◌, subst, arith, mul-pos, inl, inr}
-use Rattle.std.proofs.Math.Nat.{mul-le-mul, mul-le-mul_left, mul-le-mul_right, le_of_mul-le-mul_right}
+use Rattle.std.proofs.Common.{◌≡◌, ℕ, zero, suc, ◌+◌, ◌-◌, ◌*◌, ◌<◌, ◌≤◌, Bool, true, false, not, cond, eqb, ltb, leb, List, length, Ok, Err, ℤ, pos, ◌*ℤ◌, int_cmp, Ordering, refl, sym, ap, ap₂, ◌∙◌, subst, arith, mul-pos, inl, inr}
+use Rattle.std.proofs.Math.Nat.{mul-le-mul, mul-le-mul_right}
 use Rattle.std.proofs.lemmas.Bool.{lt-ltb, le-ltb, ltb-true, le-leb, lt-leb, cases_lt}
 use Rattle.std.proofs.lemmas.Bool.Decides.{nat_tests}
-use Rattle.cds_base.specs.declared.peak.Missing.{Missing}
 use Rattle.cds_base.specs.declared.peak.Missing.TheVariants.{TooFew, NotRising}
-use Rattle.cds_frac.specs.Fraction.{Fraction, IsReduced, lowest_terms}
+use Rattle.cds_frac.specs.Fraction.{Fraction, lowest_terms}
 use Rattle.std.specs.Ordering.{ordering_index}
 use Rattle.cds_frac.specs.FractionOrder.{ratio_cmp}
 use Rattle.cds_frac.specs.FractionLaws.{times-times, int_cmp-times}
@@ -17,7 +16,7 @@ use Rattle.cds_calib.specs.Line.{differ, corrected_xx, corrected_yy, corrected_x
 use Rattle.cds_calib.specs.Determination.{explained, total, reaches, if_rising, greatest, IsDetermination}
 use Rattle.cds_calib.specs.Spread.{spread_of}
 use Rattle.cds_calib.proofs.Squares.{gap}
-use Rattle.cds_calib.proofs.Spread.{schwarz, corrected}
+use Rattle.cds_calib.proofs.Spread.{schwarz}
 use Rattle.cds_calib.proofs.LineLaws.{if_true, if_false, differ-true, differ-false}
 
 -- ---- fractions
@@ -35,9 +34,9 @@ ratio_cmp-lowest_terms z w b d f g b_some d_some f_is g_is =
     let f_value : f.num *ℤ pos b ≡ z *ℤ pos q = subst (λ h. h.num *ℤ pos b ≡ z *ℤ pos h.den) (sym f_is) (lowest_terms-cross z b b_some) in
     let g_value : g.num *ℤ pos d ≡ w *ℤ pos s = subst (λ h. h.num *ℤ pos d ≡ w *ℤ pos h.den) (sym g_is) (lowest_terms-cross w d d_some) in
     let left : (f.num *ℤ pos s) *ℤ pos (b * d) ≡ (z *ℤ pos d) *ℤ pos (q * s) =
-      regroup f.num s (b * d) b (d * s) (omega arith) ∙ ap (λ y. y *ℤ pos (d * s)) f_value ∙ regroup z q (d * s) d (q * s) (omega arith) in
+    regroup f.num s (b * d) b (d * s) (omega arith) ∙ ap (λ y. y *ℤ pos (d * s)) f_value ∙ regroup z q (d * s) d (q * s) (omega arith) in
     let right : (g.num *ℤ pos q) *ℤ pos (b * d) ≡ (w *ℤ pos b) *ℤ pos (q * s) =
-      regroup g.num q (b * d) d (b * q) (omega arith) ∙ ap (λ y. y *ℤ pos (b * q)) g_value ∙ regroup w s (b * q) b (q * s) (omega arith) in
+    regroup g.num q (b * d) d (b * q) (omega arith) ∙ ap (λ y. y *ℤ pos (b * q)) g_value ∙ regroup w s (b * q) b (q * s) (omega arith) in
     sym (int_cmp-times (f.num *ℤ pos s) (g.num *ℤ pos q) (b * d) (mul-pos b_some d_some))
     ∙ ap₂ int_cmp left right
     ∙ int_cmp-times (z *ℤ pos d) (w *ℤ pos b) (q * s) (mul-pos q_some s_some)
@@ -131,10 +130,10 @@ unfolding greatest
 greatest-is test zero low le here above = omega arith
 greatest-is test (suc n) low le here above =
     elim (cases_lt low (suc n)) [
-      inl lt ↦ ap (λ b. cond b (suc n) (greatest test n)) (above (suc n) lt (omega arith)) ∙ greatest-is test n low (omega arith) here (λ k p q. above k p (omega arith))
-    | inr ge ↦
-      let same : low ≡ suc n = omega arith in
-      ap (λ b. cond b (suc n) (greatest test n)) (subst (λ k. test k ≡ true) same here) ∙ sym same
+      | inl lt ↦ ap (λ b. cond b (suc n) (greatest test n)) (above (suc n) lt (omega arith)) ∙ greatest-is test n low (omega arith) here (λ k p q. above k p (omega arith))
+      | inr ge ↦
+          let same : low ≡ suc n = omega arith in
+          ap (λ b. cond b (suc n) (greatest test n)) (subst (λ k. test k ≡ true) same here) ∙ sym same
     ]
 
 pub determination-end : (points : List Point) (low above : ℕ) → Between points low above → above - low ≤ 1 → low ≡ greatest (reaches points) 10000
@@ -143,7 +142,7 @@ determination-end points low above is near =
     let missed : explained points < (low + 1) * total points = subst (λ a. explained points < a * total points) next is.missed in
     let within : low ≤ 10000 = let o = is.ordered in let t = is.top in omega arith in
     sym (greatest-is (reaches points) 10000 low within (le-leb (low * total points) (explained points) is.reached)
-      (λ k lt le. lt-leb (k * total points) (explained points) (beyond points low k missed lt)))
+    (λ k lt le. lt-leb (k * total points) (explained points) (beyond points low k missed lt)))
 
 -- an order that isn't Less
 not_less : (m n : ℕ) → not (eqb (ordering_index (int_cmp (pos m) (pos n))) 0) ≡ leb n m

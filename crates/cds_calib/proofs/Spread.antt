@@ -1,5 +1,5 @@
 -- How the corrected sums of a list grow with a further point, and that the product of two bounds the square of the third.
-use Rattle.std.proofs.Common.{◌≡◌, ℕ, suc, ◌+◌, ◌-◌, ◌*◌, ◌<◌, ◌≤◌, List, [], ◌∷◌, length, refl, sym, ap, ◌∙◌, subst, arith}
+use Rattle.std.proofs.Common.{◌≡◌, ℕ, suc, ◌+◌, ◌-◌, ◌*◌, ◌≤◌, List, [], ◌∷◌, length, sym, subst, arith}
 use Rattle.std.specs.List.{sum_by}
 use Rattle.std.proofs.lemmas.List.Sums.{sum_by-cons}
 use Rattle.cds_calib.specs.declared.point.Point.{Point}
@@ -63,7 +63,7 @@ schwarz_gaps f g x y (p ∷ points) =
     let low : (x * v + y * u) + (x * sg + y * sf) ≡ x * (v + sg) + y * (u + sf) = omega arith in
     rw (sum_by-cons f p points, sum_by-cons g p points, sum_by-cons (λ q. f q * g q) p points, sum_by-cons (λ q. gap x (f q) * gap x (f q)) p points, sum_by-cons (λ q. gap y (g q) * gap y (g q)) p points)
     (subst (λ h. gap h (x * (v + sg) + y * (u + sf)) * gap h (x * (v + sg) + y * (u + sf)) ≤ (gap x u * gap x u + gaps f x points) * (gap y v * gap y v + gaps g y points)) high
-     (subst (λ l. gap ((x * y + u * v) + (n * (x * y) + sfg)) l * gap ((x * y + u * v) + (n * (x * y) + sfg)) l ≤ (gap x u * gap x u + gaps f x points) * (gap y v * gap y v + gaps g y points)) low both))
+    (subst (λ l. gap ((x * y + u * v) + (n * (x * y) + sfg)) l * gap ((x * y + u * v) + (n * (x * y) + sfg)) l ≤ (gap x u * gap x u + gaps f x points) * (gap y v * gap y v + gaps g y points)) low both))
 
 -- the inequality of Cauchy and Schwarz for the corrected sums of a list
 pub schwarz : (f g : Point → ℕ) (points : List Point) → gap (length points * sum_by (λ p. f p * g p) points) (sum_by f points * sum_by g points) * gap (length points * sum_by (λ p. f p * g p) points) (sum_by f points * sum_by g points) ≤ corrected f points * corrected g points

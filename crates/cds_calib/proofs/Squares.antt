@@ -1,5 +1,5 @@
 -- Squares of differences, and the inequality of Cauchy and Schwarz for sums of two.
-use Rattle.std.proofs.Common.{◌≡◌, ℕ, ◌+◌, ◌-◌, ◌*◌, ◌<◌, ◌≤◌, refl, sym, ap, ◌∙◌, subst, arith, inl, inr, ◌⊎◌}
+use Rattle.std.proofs.Common.{◌≡◌, ℕ, ◌+◌, ◌-◌, ◌*◌, ◌<◌, ◌≤◌, sym, subst, arith, inl, inr}
 use Rattle.std.proofs.Math.Nat.{mul-le-mul}
 use Rattle.std.proofs.lemmas.Nat.{mul-lt}
 use Rattle.std.proofs.lemmas.Bool.{cases_lt}
@@ -15,16 +15,16 @@ up_square x d = omega arith
 pub gap_square : (x u : ℕ) → gap x u * gap x u + 2 * (x * u) ≡ x * x + u * u
 gap_square x u =
     elim (cases_lt x u) [
-      inl lt ↦
-      let over : u ≡ x + (u - x) = omega arith in
-      let apart : gap x u ≡ u - x = omega arith in
-      subst (λ d. d * d + 2 * (x * u) ≡ x * x + u * u) (sym apart)
-      (subst (λ v. (u - x) * (u - x) + 2 * (x * v) ≡ x * x + v * v) (sym over) (up_square x (u - x)))
-    | inr ge ↦
-      let over : x ≡ u + (x - u) = omega arith in
-      let apart : gap x u ≡ x - u = omega arith in
-      let turned : (x - u) * (x - u) + 2 * (u * x) ≡ u * u + x * x = subst (λ v. (x - u) * (x - u) + 2 * (u * v) ≡ u * u + v * v) (sym over) (up_square u (x - u)) in
-      subst (λ d. d * d + 2 * (x * u) ≡ x * x + u * u) (sym apart) (omega arith)
+      | inl lt ↦
+          let over : u ≡ x + (u - x) = omega arith in
+          let apart : gap x u ≡ u - x = omega arith in
+          subst (λ d. d * d + 2 * (x * u) ≡ x * x + u * u) (sym apart)
+          (subst (λ v. (u - x) * (u - x) + 2 * (x * v) ≡ x * x + v * v) (sym over) (up_square x (u - x)))
+      | inr ge ↦
+          let over : x ≡ u + (x - u) = omega arith in
+          let apart : gap x u ≡ x - u = omega arith in
+          let turned : (x - u) * (x - u) + 2 * (u * x) ≡ u * u + x * x = subst (λ v. (x - u) * (x - u) + 2 * (u * v) ≡ u * u + v * v) (sym over) (up_square u (x - u)) in
+          subst (λ d. d * d + 2 * (x * u) ≡ x * x + u * u) (sym apart) (omega arith)
     ]
 
 -- four times a product is at most the square of the sum
@@ -77,28 +77,28 @@ product_unlike x u y v p q =
 pub gap_product : (x u y v : ℕ) → gap (x * y + u * v) (x * v + y * u) ≡ gap x u * gap y v
 gap_product x u y v =
     elim (cases_lt x u) [
-      inl a ↦ elim (cases_lt y v) [
-        inl b ↦
-        let g : gap x u ≡ u - x = omega arith in
-        let h : gap y v ≡ v - y = omega arith in
-        let s = product_alike x u y v (omega arith) (omega arith) in
-        rw (g, h) (omega arith)
-      | inr b ↦
-        let g : gap x u ≡ u - x = omega arith in
-        let h : gap y v ≡ y - v = omega arith in
-        let s = product_unlike x u y v (omega arith) b in
-        rw (g, h) (omega arith)
+      | inl a ↦ elim (cases_lt y v) [
+        | inl b ↦
+            let g : gap x u ≡ u - x = omega arith in
+            let h : gap y v ≡ v - y = omega arith in
+            let s = product_alike x u y v (omega arith) (omega arith) in
+            rw (g, h) (omega arith)
+        | inr b ↦
+            let g : gap x u ≡ u - x = omega arith in
+            let h : gap y v ≡ y - v = omega arith in
+            let s = product_unlike x u y v (omega arith) b in
+            rw (g, h) (omega arith)
       ]
-    | inr a ↦ elim (cases_lt y v) [
-        inl b ↦
-        let g : gap x u ≡ x - u = omega arith in
-        let h : gap y v ≡ v - y = omega arith in
-        let s = product_unlike u x v y a (omega arith) in
-        rw (g, h) (omega arith)
-      | inr b ↦
-        let g : gap x u ≡ x - u = omega arith in
-        let h : gap y v ≡ y - v = omega arith in
-        let s = product_alike u x v y a b in
-        rw (g, h) (omega arith)
+      | inr a ↦ elim (cases_lt y v) [
+        | inl b ↦
+            let g : gap x u ≡ x - u = omega arith in
+            let h : gap y v ≡ v - y = omega arith in
+            let s = product_unlike u x v y a (omega arith) in
+            rw (g, h) (omega arith)
+        | inr b ↦
+            let g : gap x u ≡ x - u = omega arith in
+            let h : gap y v ≡ y - v = omega arith in
+            let s = product_alike u x v y a b in
+            rw (g, h) (omega arith)
       ]
     ]

@@ -1,8 +1,8 @@
 -- How the divisor of the weighted line grows with a further point, with the common multiple m of the amounts fixed.
-use Rattle.std.proofs.Common.{◌≡◌, ℕ, zero, suc, ◌+◌, ◌-◌, ◌*◌, ◌/◌, ◌^◌, ◌<◌, ◌≤◌, Bool, true, false, not, ◌||◌, eqb, List, [], ◌∷◌, length, refl, sym, ap, ◌∙◌, subst, arith, inl, inr, ◌⊎◌, mul-pos}
+use Rattle.std.proofs.Common.{◌≡◌, ℕ, zero, suc, ◌+◌, ◌-◌, ◌*◌, ◌/◌, ◌^◌, ◌<◌, ◌≤◌, Bool, true, false, not, ◌||◌, eqb, List, [], ◌∷◌, length, refl, subst, arith, inl, inr, mul-pos}
 use Rattle.std.specs.List.{sum_by, list_any, All}
 use Rattle.std.specs.Int.{◌∣◌}
-use Rattle.std.proofs.Math.Nat.{div-mul_cancel, div-le_self, mul-le-mul, mul-le-mul_left, mul-le-mul_right, mul-lt-mul_of_pos_right, eq_of_mul-eq-mul_left}
+use Rattle.std.proofs.Math.Nat.{div-mul_cancel, div-le_self, mul-le-mul, mul-le-mul_left, mul-lt-mul_of_pos_right, eq_of_mul-eq-mul_left}
 use Rattle.std.proofs.lemmas.List.Sums.{sum_by-cons}
 use Rattle.std.proofs.lemmas.List.Elements.{All-head, All-tail}
 use Rattle.std.proofs.lemmas.Bool.{cases_lt, eqb-false, false≢true}
@@ -27,8 +27,8 @@ weight-times m p h = div-mul_cancel p.amount h.divides
 smaller_weight : (m x u w v : ℕ) → 0 < u → w * x ≡ m → v * u ≡ m → x ≤ u → v ≤ w
 smaller_weight m x u w v some first second le =
     elim (cases_lt w v) [
-      inl lt ↦ absurd (let more : w * u < v * u = mul-lt-mul_of_pos_right {m = w} {n = v} {k = u} lt some in let grown : w * x ≤ w * u = mul-le-mul_left {m = x} {n = u} w le in omega arith)
-    | inr ge ↦ ge
+      | inl lt ↦ absurd (let more : w * u < v * u = mul-lt-mul_of_pos_right {m = w} {n = v} {k = u} lt some in let grown : w * x ≤ w * u = mul-le-mul_left {m = x} {n = u} w le in omega arith)
+      | inr ge ↦ ge
     ]
 
 -- two points by their amounts and weights
@@ -43,13 +43,13 @@ term_ordered m x u w v some first second le =
 pub term_is : (m x u w v : ℕ) → 0 < x → 0 < u → w * x ≡ m → v * u ≡ m → w * u + x * v ≡ 2 * m + gap w v * gap x u
 term_is m x u w v x_some u_some first second =
     elim (cases_lt x u) [
-      inl lt ↦ term_ordered m x u w v u_some first second (omega arith)
-    | inr ge ↦
-      let turned = term_ordered m u x v w x_some second first ge in
-      let near : gap u x ≡ gap x u = omega arith in
-      let far : gap v w ≡ gap w v = omega arith in
-      let same : gap v w * gap u x ≡ gap w v * gap x u = rw (near, far) refl in
-      omega arith
+      | inl lt ↦ term_ordered m x u w v u_some first second (omega arith)
+      | inr ge ↦
+          let turned = term_ordered m u x v w x_some second first ge in
+          let near : gap u x ≡ gap x u = omega arith in
+          let far : gap v w ≡ gap w v = omega arith in
+          let same : gap v w * gap u x ≡ gap w v * gap x u = rw (near, far) refl in
+          omega arith
     ]
 
 -- the sum of the products of the differences from an amount and its weight
@@ -66,8 +66,8 @@ crossed_is m w x (p ∷ points) some own all =
     let first : Shares m p = All-head (Shares m) p points all in
     rw (sum_by-cons (λ q. q.amount) p points, sum_by-cons (λ q. m / q.amount) p points, sum_by-cons (λ q. gap w (m / q.amount) * gap x q.amount) p points)
     (crossed_step (length points) m w x (sum_x points) (sum_w m points) (m / p.amount) p.amount (crossed m w x points) (gap w (m / p.amount) * gap x p.amount)
-      (crossed_is m w x points some own (All-tail (Shares m) p points all))
-      (term_is m x p.amount w (m / p.amount) some first.some own (weight-times m p first)))
+    (crossed_is m w x points some own (All-tail (Shares m) p points all))
+    (term_is m x p.amount w (m / p.amount) some first.some own (weight-times m p first)))
 
 weighted_step : (n m w x s t d : ℕ) → n * n * m ≤ t * s → w * x ≡ m → w * s + x * t ≡ 2 * (n * m) + d → (suc n * suc n * m ≤ (w + t) * (x + s)) × ((w + t) * (x + s) - suc n * suc n * m ≡ (t * s - n * n * m) + d)
 weighted_step n m w x s t d before own here = (omega arith, omega arith)
@@ -81,7 +81,7 @@ weighted_le m (p ∷ points) all =
     let w : ℕ = m / p.amount in
     rw (sum_by-cons (λ q. q.amount) p points, sum_by-cons (λ q. m / q.amount) p points)
     (weighted_step (length points) m w p.amount (sum_x points) (sum_w m points) (crossed m w p.amount points) (weighted_le m points rest) (weight-times m p first)
-      (crossed_is m w p.amount points first.some (weight-times m p first) rest)).0
+    (crossed_is m w p.amount points first.some (weight-times m p first) rest)).0
 
 -- a further point adds the products of the differences from it
 pub weighted_divisor-cons : (m : ℕ) (p : Point) (points : List Point) → All (Shares m) (p ∷ points) → weighted_divisor m (p ∷ points) ≡ weighted_divisor m points + crossed m (m / p.amount) p.amount points
@@ -91,7 +91,7 @@ weighted_divisor-cons m p points all =
     let w : ℕ = m / p.amount in
     rw (sum_by-cons (λ q. q.amount) p points, sum_by-cons (λ q. m / q.amount) p points)
     (weighted_step (length points) m w p.amount (sum_x points) (sum_w m points) (crossed m w p.amount points) (weighted_le m points rest) (weight-times m p first)
-      (crossed_is m w p.amount points first.some (weight-times m p first) rest)).1
+    (crossed_is m w p.amount points first.some (weight-times m p first) rest)).1
 
 pos_factor : (w x m : ℕ) → 0 < m → w * x ≡ m → 0 < w
 pos_factor zero x m some own = absurd (omega arith)
@@ -135,5 +135,8 @@ sum_w-small m points is below = omega (arith, sum_by-few (λ p. m / p.amount) (2
 -- the sum of the weighted areas is small
 pub sum_wy-small : (m : ℕ) (points : List Point) → IsCalibration points → m < 2 ^ 60 → sum_wy m points < 2 ^ 118
 sum_wy-small m points is below =
-    omega (arith, sum_by-few (λ p. m / p.amount * p.area) ((2 ^ 60 - 1) * (2 ^ 52 - 1)) points is
-      (λ p at. mul-le-mul {n₁ = m / p.amount} {m₁ = p.area} {n₂ = 2 ^ 60 - 1} {m₂ = 2 ^ 52 - 1} (weight_le m (2 ^ 60 - 1) p.amount (omega arith)) (let a = at.area in omega arith)))
+    omega (
+      arith,
+      sum_by-few (λ p. m / p.amount * p.area) ((2 ^ 60 - 1) * (2 ^ 52 - 1)) points is
+          (λ p at. mul-le-mul {n₁ = m / p.amount} {m₁ = p.area} {n₂ = 2 ^ 60 - 1} {m₂ = 2 ^ 52 - 1} (weight_le m (2 ^ 60 - 1) p.amount (omega arith)) (let a = at.area in omega arith)),
+    )

@@ -1,6 +1,6 @@
 -- The coefficient of determination r^2 = (n Sxy - Sx Sy)^2 / ((n Sxx - Sx^2) (n Syy - Sy^2)) of the unweighted line
 -- with intercept, whatever the weight of the line that is used. It is compared as a product, and never divided.
-use Rattle.std.specs.Prelude.{ℕ, zero, suc, ◌*◌, ◌<◌, ◌≤◌, nat_lt, nat_le, Bool, cond, if◌then◌else◌, List, Result, Ok, Err}
+use Rattle.std.specs.Prelude.{ℕ, zero, suc, ◌*◌, ◌≤◌, nat_lt, nat_le, Bool, cond, if◌then◌else◌, List, Result, Ok, Err}
 use Rattle.cds_base.specs.declared.peak.Missing.{Missing}
 use Rattle.cds_base.specs.declared.peak.Missing.TheVariants.{TooFew, NotRising}
 use Rattle.cds_calib.specs.declared.point.Point.{Point}

@@ -2,7 +2,7 @@
 -- origin, or each point weighted by the inverse of its amount. Slope b and intercept a are numerators over one
 -- divisor, not reduced. The numbers here are natural ones, on which `-` stops at 0: no divisor is ever below 0, and
 -- of a numerator of b that is not above 0 no more is asked.
-use Rattle.std.specs.Prelude.{ℕ, ◌-◌, ◌*◌, ◌/◌, ◌%◌, ◌^◌, ◌<◌, ◌==◌, nat_lt, Bool, ◌&&◌, not, if◌then◌else◌, List, [], length, sum_by, Result, Ok, Err, ℤ, pos, ◌-ℤ◌, unsigned_abs}
+use Rattle.std.specs.Prelude.{ℕ, ◌-◌, ◌*◌, ◌/◌, ◌%◌, ◌^◌, ◌<◌, ◌==◌, nat_lt, Bool, ◌&&◌, if◌then◌else◌, List, length, sum_by, Result, Ok, Err, ℤ, pos, ◌-ℤ◌, unsigned_abs}
 use Rattle.std.specs.List.{list_all, fold}
 use Rattle.cds_base.specs.declared.peak.Missing.{Missing}
 use Rattle.cds_base.specs.declared.peak.Missing.TheVariants.{TooFew, NotRising, Unfit}
@@ -47,11 +47,11 @@ weighted_divisor m points = sum_w m points * sum_x points - length points * leng
 -- all points alike: D = n Sxx - Sx^2, b = (n Sxy - Sx Sy) / D, a = (Sy Sxx - Sx Sxy) / D
 abbrev pub equal_line : List Point → CalibrationLine
 equal_line points = record {
-    weight = Equal;
-    divisor = corrected_xx points;
-    slope = corrected_xy points;
-    intercept = pos (sum_y points * sum_xx points) -ℤ pos (sum_x points * sum_xy points);
-  }
+  weight = Equal;
+  divisor = corrected_xx points;
+  slope = corrected_xy points;
+  intercept = pos (sum_y points * sum_xx points) -ℤ pos (sum_x points * sum_xy points);
+}
 
 -- through the origin: b = Sxy / Sxx, a = 0
 abbrev pub origin_line : List Point → CalibrationLine
@@ -60,11 +60,11 @@ origin_line points = record { weight = Origin; divisor = sum_xx points; slope = 
 -- weights M / x: D' = Sw Sx - n^2 M, b = (Sw Sy - n Swy) / D', a = (Sx Swy - n M Sy) / D'
 abbrev pub inverse_line : ℕ → List Point → CalibrationLine
 inverse_line m points = record {
-    weight = Inverse;
-    divisor = weighted_divisor m points;
-    slope = sum_w m points * sum_y points - length points * sum_wy m points;
-    intercept = pos (sum_x points * sum_wy m points) -ℤ pos (length points * m * sum_y points);
-  }
+  weight = Inverse;
+  divisor = weighted_divisor m points;
+  slope = sum_w m points * sum_y points - length points * sum_wy m points;
+  intercept = pos (sum_x points * sum_wy m points) -ℤ pos (length points * m * sum_y points);
+}
 
 -- the line where it rises
 abbrev pub rising : CalibrationLine → Result CalibrationLine Missing

@@ -1,5 +1,5 @@
 -- How the sums that a calibration keeps follow its points. No public clause names them.
-use Rattle.std.specs.Prelude.{◌≡◌, ℕ, ◌+◌, ◌*◌, ◌^◌, ◌<◌, ◌≤◌, List, length}
+use Rattle.std.specs.Prelude.{◌≡◌, ℕ, ◌+◌, ◌*◌, ◌^◌, ◌<◌, ◌≤◌, List}
 use Rattle.cds_calib.specs.declared.point.Point.{Point}
 use Rattle.cds_calib.specs.declared.sums.Sums.{Sums}
 use Rattle.cds_calib.specs.Points.{IsCalibration, sum_x, sum_y, sum_xx, sum_xy, sum_yy}

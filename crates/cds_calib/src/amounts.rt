@@ -1,11 +1,10 @@
 ghost use Rattle.std.specs.Prelude.{◌≡◌, ◌^◌, ◌<◌, ◌≤◌};
 ghost use Rattle.cds_calib.specs.Amount.{amount_of};
 
-use cds_base::Missing;
-use cds_frac::Frac;
-
 use crate::fit::Fit;
 use crate::point::AREA_LIMIT;
+use cds_base::Missing;
+use cds_frac::Frac;
 
 /// The amount of a peak of this area, in count milliseconds, times the dilution `u / v` of its sample: the exact
 /// number (y - a) / b * u / v. `Unfit` exactly where one of these is 2^126 or more in absolute value: for a line with

@@ -2,14 +2,13 @@ ghost use Rattle.std.specs.Prelude.{◌≡◌, ◌*◌, nat_le, IfOk};
 ghost use Rattle.cds_calib.specs.Determination.{if_rising, at_least_of, determination_of, IsDetermination};
 ghost use Rattle.cds_calib.specs.Spread.{spread_of, IsSpread};
 
+use crate::points::Points;
 use cds_base::Missing;
 use cds_frac::Frac;
 use std::cmp::Ordering;
 
-use crate::points::Points;
-
-/// The unit of a coefficient of determination that is shown: it is counted in ten-thousandths.
-pub const WHOLE: u32 = 10_000;
+/// A coefficient of determination of 1, in ten-thousandths.
+const WHOLE: u32 = 10_000;
 
 /// The corrected sums of points whose line rises.
 #[derive(Clone, Copy, Debug)]

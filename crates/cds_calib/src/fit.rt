@@ -5,18 +5,17 @@ ghost use Rattle.cds_calib.specs.Line.{differ};
 ghost use Rattle.cds_calib.specs.Amount.{undiluted, undiluted_fits};
 ghost use Rattle.cds_calib.specs.Fit.{fit_of, IsFit, common_multiple, weights_fit, rising, inverse_line};
 
+use crate::multiple::{common_multiple, weighted_sums};
+use crate::point::AREA_LIMIT;
+use crate::points::Points;
 use cds_base::Missing;
 use cds_frac::{Frac, LCM_LIMIT, PART_LIMIT};
 use cds_rules::Weight;
 use std::marker::Model;
 
-use crate::multiple::{common_multiple, weighted_sums};
-use crate::point::AREA_LIMIT;
-use crate::points::Points;
-
 /// A straight line through the points of a calibration, by least squares. Seen as its weight, its divisor and the
 /// numerators of slope and intercept over that divisor, not reduced. The slope is positive.
-#[derive(Clone, Copy, Debug)]
+#[derive(Clone, Copy, Debug, PartialEq, Eq)]
 pub struct Fit {
     weight: Weight,
     divisor: u128,
@@ -110,7 +109,7 @@ impl Points {
     fn origin_line(&self) -> Result<Fit, Missing>
         ensures { result ≡ fit_of Weight.Origin self.now }
     {
-        if self.len() == 0 {
+        if self.is_empty() {
             return Err(Missing::TooFew);
         }
         let sums = self.sums();

@@ -11,6 +11,8 @@ mod multiple;
 mod point;
 mod points;
 mod sums;
+#[cfg(test)]
+mod tests;
 
 pub use amounts::amount;
 pub use fit::Fit;

@@ -3,9 +3,8 @@ ghost use Rattle.std.specs.Option.{SomeIff};
 ghost use Rattle.cds_calib.specs.Points.{IsPoint, IsCalibration};
 ghost use Rattle.cds_calib.specs.Fit.{common_multiple, sum_w, sum_wy};
 
-use cds_frac::{LCM_LIMIT, lcm};
-
 use crate::point::Point;
+use cds_frac::{LCM_LIMIT, lcm};
 
 /// The least common multiple of the amounts. None exactly where it is `LCM_LIMIT`, 2^60, or more.
 pub fn common_multiple(points: &[Point]) -> Option<u64>

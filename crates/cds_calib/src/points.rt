@@ -1,10 +1,11 @@
-ghost use Rattle.std.specs.Prelude.{◌≡◌, ◌*◌, ◌<◌, ◌≤◌, [], IfOk, length, insert, remove};
+ghost use Rattle.std.specs.Prelude.{◌≡◌, ◌*◌, ◌<◌, ◌≤◌, [], ◌↔◌, IsTrue, IfOk, length, insert, remove};
 ghost use Rattle.cds_calib.specs.Points.{IsCalibration};
 ghost use Rattle.cds_calib.specs.Sums.{sums_of, IsSmall};
 
 use crate::point::{AREA_LIMIT, MOST_AMOUNT, MOST_POINTS, Point};
 use crate::sums::Sums;
-use std::alloc::{AllocError, Global};
+use cds_base::NoMemory;
+use std::alloc::Global;
 use std::marker::Model;
 
 /// The points of a calibration in their order, at most 64. Seen as their list. It takes all its memory when it is
@@ -30,7 +31,7 @@ impl Model for Points {
 
 impl Points {
     /// No points, with room for all that may come. The only refusal is want of memory.
-    pub fn new(alloc: Global) -> Result<Points, AllocError>
+    pub fn new(alloc: Global) -> Result<Points, NoMemory>
         ensures { IfOk result (λ points. points ≡ []) }
     {
         Ok(Points {
@@ -72,6 +73,20 @@ impl Points {
         self.items.as_slice()
     }
 
+    /// How many points there are.
+    pub fn len(&self) -> usize
+        ensures { result ≡ length self.now }
+    {
+        self.items.len()
+    }
+
+    /// Whether there is no point.
+    pub fn is_empty(&self) -> bool
+        ensures { IsTrue result ↔ (self.now ≡ []) }
+    {
+        self.items.is_empty()
+    }
+
     /// The plain sums of the points.
     pub(crate) fn sums(&self) -> Sums
         ensures sums { result ≡ sums_of self.now }
@@ -87,12 +102,5 @@ impl Points {
         ensures few { result ≤ 64 }
     {
         self.items.len() as u128
-    }
-
-    /// How many points there are.
-    pub fn len(&self) -> usize
-        ensures { result ≡ length self.now }
-    {
-        self.items.len()
     }
 }

@@ -1,4 +1,4 @@
-use Rattle.std.proofs.Common.{◌≡◌, ℕ, ◌*◌, ◌/◌, List, get_or, take, arith, ap, ap₂, ◌∙◌}
+use Rattle.std.proofs.Common.{◌≡◌, ℕ, ◌*◌, ◌/◌, List, get_or, arith, ap, ap₂, ◌∙◌}
 use Rattle.std.proofs.lemmas.List.{take_all}
 use Rattle.std.proofs.lemmas.List.Sums.{sum_by_more_le}
 use Rattle.cds_calib.specs.declared.point.Point.{Point}
@@ -25,7 +25,7 @@ overflow_add-sums-in-loop-point c =
     let m : ℕ = c.args.multiple in
     let none : Point = record { amount = 0; area = 0 } in
     let here : c.from-weight.result * c.from-in-loop-point.result ≡ m / (get_or points i none).amount * (get_or points i none).area =
-      ap₂ (λ w y. w * y) (c.from-weight.ensures ∙ ap (λ a. m / a) c.from.ensures) c.from-in-loop-point.ensures in
+    ap₂ (λ w y. w * y) (c.from-weight.ensures ∙ ap (λ a. m / a) c.from.ensures) c.from-in-loop-point.ensures in
     let more = sum_by_more_le (λ p. m / p.amount * p.area) points i none c.loop-point-test.true in
     let whole = sum_wy-small m points c.requires.points c.requires.multiple in
     let front = c.loop-point.invariant.1 in

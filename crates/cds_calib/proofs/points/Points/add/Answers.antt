@@ -1,4 +1,4 @@
-use Rattle.std.proofs.Common.{arith, rules, refl}
+use Rattle.std.proofs.Common.{rules}
 use Rattle.cds_calib.proofs.Kept.{IsSmall-kept, IsKept-insert}
 use Rattle.cds_calib.proofs.points.Points.add.Goals as goal
 

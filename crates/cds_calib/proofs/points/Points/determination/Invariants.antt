@@ -1,6 +1,4 @@
-use Rattle.std.proofs.Common.{◌≡◌, ℕ, ◌-◌, ◌<◌, ◌≤◌, true, false}
-use Rattle.cds_calib.specs.Determination.{reaches}
-use Rattle.cds_calib.specs.Spread.{spread_of, IsSpread}
+use Rattle.std.proofs.Common.{◌-◌}
 use Rattle.cds_calib.proofs.Reached.{Between}
 use Rattle.cds_calib.proofs.points.Points.determination.Given as goal
 

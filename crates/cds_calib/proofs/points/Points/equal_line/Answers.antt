@@ -1,4 +1,4 @@
-use Rattle.std.proofs.Common.{◌≡◌, ◌*◌, pos, ◌-ℤ◌, to_z, of_z, FitsSigned, rules, ◌∙◌}
+use Rattle.std.proofs.Common.{FitsSigned, rules, ◌∙◌}
 use Rattle.std.proofs.lemmas.Int.{to_z-of_z}
 use Rattle.std.specs.Int.{w128}
 use Rattle.cds_calib.proofs.LineLaws.{equal-few, equal-flat, equal-line, IsFit-equal}

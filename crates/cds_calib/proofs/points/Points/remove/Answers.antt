@@ -1,5 +1,5 @@
-use Rattle.std.proofs.Common.{arith, rules, refl}
-use Rattle.cds_calib.proofs.Kept.{IsKept-remove, HasPoint-kept}
+use Rattle.std.proofs.Common.{rules}
+use Rattle.cds_calib.proofs.Kept.{IsKept-remove}
 use Rattle.cds_calib.proofs.points.Points.remove.Goals as goal
 
 pub invariant_of-self : goal.invariant_of-self
