@@ -1,6 +1,8 @@
 //! Calibration: points of amount and area, the straight line through them by least squares, and the amount of an area.
+//! Every number is exact.
 //!
-//! Begin at [`Points`]: it keeps the points of one component in their order.
+//! Begin at [`Points`], which keeps the points of one component in their order; [`Points::fit`] gives their line as a
+//! [`Fit`], by which [`amount`] turns an area into an amount; [`Points::determination`] says how well a line fits.
 #![tactic(auto)]
 
 mod amounts;
