@@ -1,10 +1,7 @@
 ghost use Rattle.std.specs.Prelude.{◌≤◌, None, IfOk, length};
 
-
-use std::io::{ErrorKind, Read, Write};
-
-
 use cds_base::{Failed, Sink, Source};
+use std::io::{ErrorKind, Read, Write};
 
 /// A source over a reader of the system. It tells nothing of its content; it gives at most 2^64 - 1 bytes, and
 /// answers the end of input behind them.

@@ -5,15 +5,13 @@ mod devices;
 
 ghost use Rattle.std.specs.Prelude.{◌≡◌, ◌<◌};
 
+use cds_base::{Sink, Source, Steps};
+use devices::{ReaderSource, WriterSink};
 use std::alloc::Global;
-use std::env;
-use std::io;
 use std::marker::Brand;
 use std::process::ExitCode;
 use std::sync::ledger::{Blank, Ledger};
-
-use cds_base::{Sink, Source, Steps};
-use devices::{ReaderSource, WriterSink};
+use std::{env, io};
 
 fn main(rt: HostRuntime) -> ExitCode {
     let words = match env::args(&rt) {
@@ -27,13 +25,7 @@ fn main(rt: HostRuntime) -> ExitCode {
     };
     let mut source = ReaderSource::new(rt.stdin());
     let mut sink = WriterSink::new(rt.stdout());
-    ExitCode::from(run::<_, _, Brand>(
-        Blank::new(1),
-        rt.alloc(),
-        &words,
-        &mut source,
-        &mut sink,
-    ))
+    ExitCode::from(run::<_, _, Brand>(Blank::new(1), rt.alloc(), &words, &mut source, &mut sink))
 }
 
 /// The top call, with a counter of steps of its own.

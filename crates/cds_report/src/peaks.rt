@@ -2,10 +2,9 @@ ghost use Rattle.std.specs.Prelude.{◌≡◌, ◌++◌, IfOk};
 ghost use Rattle.std.specs.String.{string_bytes};
 ghost use Rattle.cds_report.specs.PeaksText.{peak_line, peaks_table, peaks_text};
 
-use std::alloc::Global;
-
 use cds_base::{Bytes, NoMemory, RawPeak};
 use cds_detect::Raw;
+use std::alloc::Global;
 
 /// What the detector finds in a trace, as a text: the table of the raw peaks, which is the header
 /// `peak,start,apex,end` and a line for each peak with its number, counted from 1, its first sample, its apex and
@@ -34,9 +33,5 @@ fn peaks_table(alloc: Global, peaks: &[RawPeak]) -> Result<String, NoMemory>
 fn push_peak(text: &mut String, number: usize, peak: &RawPeak) -> Result<(), NoMemory>
     ensures { IfOk result (λ _. string_bytes text.new ≡ string_bytes text.old ++ peak_line number peak.now) }
 {
-    write!(
-        text,
-        "{number},{},{},{}\n",
-        peak.start, peak.apex, peak.end
-    )
+    write!(text, "{number},{},{},{}\n", peak.start, peak.apex, peak.end)
 }
