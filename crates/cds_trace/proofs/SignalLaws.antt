@@ -1,6 +1,10 @@
 -- Laws of sums of samples.
 use Rattle.std.proofs.Common.{◌≡◌, ◌∙◌, ℕ, ◌+◌, ◌-◌, ◌*◌, ◌<◌, ◌≤◌, ℤ, pos, neg_ℤ, ◌+ℤ◌, ◌-ℤ◌, ◌≤ℤ◌, List, [], ◌∷◌, ◌++◌, All, fold, get_or, length, take, drop, arith, ap, subst, sym, inl, inr, w64}
-use Rattle.std.specs.Prelude.{◌⊎◌, FitsSigned, slice_range}
+use Rattle.std.specs.Cmp.{signed_Decides}
+use Rattle.std.specs.Cmp.Lexicographic.{pointwise}
+use Rattle.std.specs.Ordering.{int_eq}
+use Rattle.std.proofs.lemmas.Slice.Eq.{slice_eq-Decides}
+use Rattle.std.specs.Prelude.{Bool, IsTrue, refl, ◌⊎◌, FitsSigned, slice_range}
 use Rattle.std.proofs.lemmas.Int.{ints}
 use Rattle.std.proofs.lemmas.List.{get_or_read, get_or_append_left, get_or_push, length_push, take-append-drop, take-take, drop-take, length-take, length-drop}
 use Rattle.std.proofs.lemmas.List.Elements.{All-head, All-tail, All-take, All-drop}
@@ -101,3 +105,12 @@ total-fits xs i sum few range e =
     let size = length-take i xs in
     let bounds = total-bounds (take i xs) (All-take IsSample i xs range) in
     omega (arith, ints, e, bounds.0, bounds.1)
+
+-- two signals are equal exactly where their periods and their samples are
+pub Signal-same : (a b : Signal) (r : Bool) → a.period ≡ b.period → r ≡ pointwise int_eq a.samples b.samples → (IsTrue r → a ≡ b) × (a ≡ b → IsTrue r)
+Signal-same a b r period e =
+    let decides = slice_eq-Decides signed_Decides a.samples b.samples r e in
+    ((λ t. fields a.period b.period a.samples b.samples period (decides.0 t)), (λ same. decides.1 (ap (λ (s : Signal). s.samples) same)))
+  where
+    fields : (p q : ℕ) (xs ys : List ℤ) → p ≡ q → xs ≡ ys → ◌≡◌ {A = Signal} (record { period = p; samples = xs }) (record { period = q; samples = ys })
+    fields p q xs ys e f = rw (e, f) refl

@@ -1,6 +1,6 @@
 -- Laws of the text that is written of a trace: it states the trace.
-use Rattle.std.proofs.Common.{◌≡◌, ◌∙◌, ℕ, ◌+◌, ◌-◌, ◌*◌, ◌^◌, ◌<◌, ◌≤◌, Bool, true, false, not, ℤ, pos, negsuc, List, [], ◌∷◌, ◌++◌, Option, Some, None, Result, Ok, Err, All, get_or, length, suc, take, drop, append_assoc, add-one, arith, ap, sym, refl}
-use Rattle.std.specs.Prelude.{◌==◌, ◌||◌, ◌&&◌, codes, decimal, nat_le, nat_lt, option_map, if◌then◌else◌}
+use Rattle.std.proofs.Common.{◌≡◌, ◌∙◌, ℕ, ◌+◌, ◌-◌, ◌*◌, ◌^◌, ◌<◌, ◌≤◌, Bool, true, false, not, ℤ, pos, negsuc, List, [], ◌∷◌, ◌++◌, Some, Ok, All, get_or, length, suc, drop, append_assoc, add-one, arith, ap, sym, refl}
+use Rattle.std.specs.Prelude.{◌==◌, ◌||◌, codes, decimal, nat_le, nat_lt}
 use Rattle.std.specs.Char.{digit_value, is_ascii_digit}
 use Rattle.std.specs.Fmt.{signed_decimal}
 use Rattle.std.specs.List.{list_all, prefix_len, suffix_len}
@@ -12,15 +12,13 @@ use Rattle.std.proofs.lemmas.List.{append-nil, drop_all, drop_more, take_all}
 use Rattle.std.proofs.Math.Nat.{mul-le-mul_right}
 use Rattle.std.proofs.lemmas.List.Elements.{All-head, All-tail}
 use Rattle.std.proofs.lemmas.List.Sums.{AllPass-from_list_all, suffix_len_is}
-use Rattle.csv.specs.Machine.{Read, next_record}
 use Rattle.csv.specs.Reading.{default_config, records, records_from, strip_bom}
 use Rattle.csv.specs.declared.parser.State.TheVariants as st
-use Rattle.cds_trace.specs.Limits.{fewest_samples, last_time, most_samples}
-use Rattle.cds_trace.specs.Number.{digits_number, is_blank, number_of, signed_number, without_blanks}
+use Rattle.cds_trace.specs.Limits.{last_time, most_samples}
+use Rattle.cds_trace.specs.Number.{digits_number, is_blank, number_of, without_blanks}
 use Rattle.cds_trace.specs.Signal.{IsSample, IsTrace, Signal}
-use Rattle.cds_trace.specs.TraceText.{Fields, csv_trace, is_header, period_of, sample_before, sample_of, samples_of, time_in_us, trace_of_records, trace_of_rows, trace_of_samples}
+use Rattle.cds_trace.specs.TraceText.{Fields, csv_trace, period_of, sample_of, samples_of}
 use Rattle.cds_trace.specs.WrittenText.{csv_text, line_of, lines_of}
-use Rattle.cds_trace.specs.declared.error.TraceError.{TraceError}
 use Rattle.cds_trace.proofs.LineLaws.{is_plain, next_record-line}
 use Rattle.cds_trace.proofs.RecordLaws.{records_from-end, records_from-some}
 
@@ -163,8 +161,10 @@ samples_of-rows_of : (period i : ℕ) (samples : List ℤ) → AreWritable perio
 unfolding samples_of rows_of
 samples_of-rows_of period i [] h = refl
 samples_of-rows_of period i (sample ∷ rest) h =
-    rw (sample_of-row_of period i sample (omega (arith, h.few)) (h.times i (omega arith)) h.ticking (All-head IsSample sample rest h.range),
-    samples_of-rows_of period (i + 1) rest (AreWritable-tail period i sample rest h)) refl
+    rw (
+      sample_of-row_of period i sample (omega (arith, h.few)) (h.times i (omega arith)) h.ticking (All-head IsSample sample rest h.range),
+      samples_of-rows_of period (i + 1) rest (AreWritable-tail period i sample rest h),
+    ) refl
 
 period_of-rows_of : (period : ℕ) (samples : List ℤ) → 2 ≤ length samples → AreWritable period 0 samples → period_of (rows_of period 0 samples) ≡ period
 unfolding rows_of
@@ -202,8 +202,8 @@ unfolding csv_trace strip_bom
 csv_trace-csv_text signal h =
     let writable = IsTrace-AreWritable signal h in
     let first : records default_config (csv_text signal) ≡ (codes "time_us" ∷ codes "signal" ∷ []) ∷ rows_of signal.period 0 signal.samples =
-        records_from-some default_config st.StartRecord (csv_text signal) (codes "time_us" ∷ codes "signal" ∷ [], st.StartRecord, lines_of signal.period 0 signal.samples)
-        (next_record-line (codes "time_us") (codes "signal") (lines_of signal.period 0 signal.samples) (omega arith) (omega arith) refl refl)
-        ∙ ap (λ (rows : List Fields). (codes "time_us" ∷ codes "signal" ∷ []) ∷ rows) (records_from-lines_of signal.period 0 signal.samples writable) in
+    records_from-some default_config st.StartRecord (csv_text signal) (codes "time_us" ∷ codes "signal" ∷ [], st.StartRecord, lines_of signal.period 0 signal.samples)
+    (next_record-line (codes "time_us") (codes "signal") (lines_of signal.period 0 signal.samples) (omega arith) (omega arith) refl refl)
+    ∙ ap (λ (rows : List Fields). (codes "time_us" ∷ codes "signal" ∷ []) ∷ rows) (records_from-lines_of signal.period 0 signal.samples writable) in
     let long : nat_lt (length signal.samples) 2 ≡ false = grind (arith, nat_tests, h.enough) in
     rw (first, period_of-rows_of signal.period signal.samples h.enough writable, samples_of-rows_of signal.period 0 signal.samples writable, long) refl

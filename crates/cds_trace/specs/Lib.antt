@@ -9,3 +9,4 @@ pub mod Rows
 pub mod Refusal
 pub mod Period
 pub mod WrittenText
+pub mod SampleBytes

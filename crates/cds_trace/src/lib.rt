@@ -5,6 +5,7 @@
 #![tactic(auto)]
 
 mod error;
+mod hold;
 mod number;
 mod read;
 mod trace;

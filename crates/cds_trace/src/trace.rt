@@ -101,6 +101,17 @@ impl Trace {
         self.period
     }
 
+    /// An equal trace with memory of its own. No step.
+    pub fn copy(&self, alloc: Global) -> Result<Trace, AllocError>
+        ensures { IfOk result (λ copy. copy ≡ self.now) }
+    {
+        Ok(Trace {
+            period: self.period,
+            samples: Vec::from_slice(alloc, &self.samples)?,
+            sums: Vec::from_slice(alloc, &self.sums)?,
+        })
+    }
+
     // The samples in the order of their times.
     pub(crate) fn samples(&self) -> &[i32]
         ensures { result.now ≡ self.now.samples }

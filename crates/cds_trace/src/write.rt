@@ -3,11 +3,10 @@ ghost use Rattle.cds_trace.specs.Signal.{Signal};
 ghost use Rattle.cds_trace.specs.TraceText.{csv_trace};
 ghost use Rattle.cds_trace.specs.WrittenText.{csv_text, line_of};
 
+use crate::trace::Trace;
 use cds_base::Bytes;
 use itoa::Buffer;
 use std::alloc::{AllocError, Global};
-
-use crate::trace::Trace;
 
 /// The header of the text of a trace.
 const HEADER: &[u8] = b"time_us,signal\n";
