@@ -329,20 +329,7 @@ blank_is place bytes c (Head head) knows none = sym (heads_not_empty place bytes
 blank_is place bytes c (Fault f) knows none =
     let clash = FirstItem-unique place bytes c false None (Some (fault f)) none (record { front = fails f; is_front = knows; item_is = refl }) in absurd (cc)
 
--- at the end of the input only empty lines are left
-pub ends_blank : (place : ℕ) (bytes : List ℕ) (c : Bool) → FirstItem place bytes c false None → is_only_empty_lines bytes ≡ true → FirstItem place bytes c true None
-ends_blank place bytes c x blank = record {
-  front = x.front;
-  is_front = x.is_front;
-  item_is = of_front x.front x.is_front x.item_is;
-}
-  where
-    of_front : (f : Front) → IsFront place bytes f → None ≡ item_of place bytes c false f → None ≡ item_of place bytes c true f
-    of_front waits at is = rw blank refl
-    of_front (fails f) at is = absurd (cc)
-    of_front (heads size h body) at is = let no' = heads_not_empty place bytes size h body at in absurd (cc)
-
--- or a message is cut off
+-- at the end of the input a message is cut off
 pub ends_cut : (place : ℕ) (bytes : List ℕ) (c : Bool) → FirstItem place bytes c false None → is_only_empty_lines bytes ≡ false
     → FirstItem place bytes c true (Some (fault (Truncated place)))
 ends_cut place bytes c x more = record {
@@ -413,14 +400,6 @@ module _ (s : Stream) (known : Known) (held : ℕ) (all : held ≡ length s.byte
 
   only : is_blank known held ≡ is_only_empty_lines s.bytes
   only = ap (is_blank known) all ∙ blank_is s.place s.bytes s.continued known end_told.0 end_told.1
-
-  pub end_blank_answer : true ≡ is_blank known held → None ≡ cond (is_only_empty_lines s.bytes) None (Some (Truncated s.place))
-  end_blank_answer blank = let e : is_only_empty_lines s.bytes ≡ true = sym (blank ∙ only) in rw e refl
-
-  pub end_blank_items : true ≡ is_blank known held → ItemsFrom s [] true []
-  end_blank_items blank =
-      subst (λ (b : List ℕ). FirstItem s.place b s.continued true None) (sym (append-nil s.bytes))
-      (ends_blank s.place s.bytes s.continued end_told.1 (sym (blank ∙ only)))
 
   pub end_cut_answer : false ≡ is_blank known held → Some (Truncated s.place) ≡ cond (is_only_empty_lines s.bytes) None (Some (Truncated s.place))
   end_cut_answer more = let e : is_only_empty_lines s.bytes ≡ false = sym (more ∙ only) in rw e refl

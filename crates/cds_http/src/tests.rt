@@ -250,8 +250,8 @@ fn streams_have_their_items(rt: HostRuntime) -> Result<(), Fail> {
         assert!(rt; has_items(rt.alloc(), stream, expected)?, "{shows}");
     }
     let line = b"GET / HTTP/1.1\r\n";
-    // How often a text comes between the request line and the end, and the items. The head of 15 bytes, 16,364 of
-    // a field and the last 5 is as long as a head can be.
+    // How often a text comes between the request line and the end, and the items. A line of 16 bytes, 16,363 bytes
+    // of a name and the last 5 bytes are a head that is as long as one can be.
     for (middle, times, back, expected) in [
         (
             b"a: b\r\n".as_slice(),
