@@ -1,5 +1,5 @@
 -- A fraction, and a number in lowest terms.
-use Rattle.std.specs.Prelude.{◌≡◌, ℕ, ◌-◌, ◌*◌, ◌/◌, ◌%◌, ◌^◌, ◌<◌, ℤ, pos, negsuc, neg_ℤ, ◌==◌, unsigned_abs}
+use Rattle.std.specs.Prelude.{◌≡◌, ℕ, ◌-◌, ◌*◌, ◌/◌, ◌%◌, ◌^◌, ◌<◌, ℤ, pos, negsuc, neg_ℤ, ◌*ℤ◌, ◌==◌, unsigned_abs}
 use Rattle.std.specs.Int.{int_div_euclid}
 use Rattle.cds_frac.specs.Divisors.{least_from, AreCoprime}
 
@@ -34,6 +34,14 @@ floor_of f = int_div_euclid f.num (pos f.den)
 -- both parts are below 2^126
 abbrev pub IsInRange : Fraction → Type 0
 IsInRange f = (unsigned_abs f.num < 2 ^ 126) × (f.den < 2 ^ 126)
+
+-- the number times u / v, in lowest terms
+abbrev pub product_of : Fraction → ℕ → ℕ → Fraction
+product_of f u v = lowest_terms (f.num *ℤ pos u) (f.den * v)
+
+-- the two fractions are one number
+abbrev pub IsSameNumber : Fraction → Fraction → Type 0
+IsSameNumber f g = f.num *ℤ pos g.den ≡ g.num *ℤ pos f.den
 
 -- what each `Frac` is: a number in lowest terms, with both parts below 2^126
 pub record IsFrac (f : Fraction) : Type 0 where

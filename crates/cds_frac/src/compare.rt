@@ -20,7 +20,7 @@ pub fn compare_ratios(a: u128, b: u128, c: u128, d: u128) -> Ordering
         if left_rest == 0 || right_rest == 0 {
             return left_rest.cmp(&right_rest);
         }
-        // a / b and c / d stand as left_rest / b and right_rest / d do, and so as d / right_rest and b / left_rest
+        // The two stand as left_rest / b and right_rest / d do, and so as d / right_rest and b / left_rest.
         (a, c) = (d, b);
         (b, d) = (right_rest, left_rest);
     }

@@ -1,8 +1,8 @@
-ghost use Rattle.std.specs.Prelude.{◌≡◌, ℕ, ◌*◌, ◌^◌, ◌<◌, ◌≤◌, pos, ◌+ℤ◌, ◌*ℤ◌, ◌≤ℤ◌, ◌<ℤ◌, unsigned_abs, IsTrue, ◌↔◌, IfSome, IfNone, IfOk};
+ghost use Rattle.std.specs.Prelude.{◌≡◌, ℕ, ◌*◌, ◌<◌, ◌≤◌, pos, ◌+ℤ◌, ◌*ℤ◌, ◌≤ℤ◌, ◌<ℤ◌, unsigned_abs, IsTrue, ◌↔◌, IfSome, IfNone, IfOk};
 ghost use Rattle.std.specs.Option.{SomeIff};
-ghost use Rattle.std.specs.Ordering.{int_cmp, as_partial_cmp};
+ghost use Rattle.std.specs.Ordering.{as_partial_cmp};
 ghost use Rattle.cds_frac.specs.Divisors.{AreCoprime};
-ghost use Rattle.cds_frac.specs.Fraction.{Fraction, IsFrac, IsInRange, lowest_terms, floor_of, with_sign, IsProduct};
+ghost use Rattle.cds_frac.specs.Fraction.{Fraction, IsFrac, IsInRange, IsSameNumber, IsProduct, lowest_terms, product_of, floor_of, with_sign};
 ghost use Rattle.cds_frac.specs.Decimals.{decimal_text};
 ghost use Rattle.cds_frac.specs.FractionOrder.{ratio_cmp, fraction_cmp, fraction_eq};
 ghost use Rattle.cds_frac.specs.FractionLaws.{fraction_cmp_total, fraction_eq-is, fraction_eq_equiv, fraction_partial_order};
@@ -73,7 +73,7 @@ impl Frac {
     /// `PART_LIMIT`, 2^126, or more.
     pub fn times(&self, u: u32, v: u32) -> Option<Frac>
         requires { 1 ≤ v }
-        ensures { let product = lowest_terms (self.now.num *ℤ pos u) (self.now.den * v) in SomeIff result (IsInRange product) product }
+        ensures { SomeIff result (IsInRange (product_of self.now u v)) (product_of self.now u v) }
     {
         let size = self.num.unsigned_abs();
         let parts = product_parts(size, self.den, u128::from(u), u128::from(v));
@@ -92,9 +92,9 @@ impl Frac {
         self.num.div_euclid(self.den as i128)
     }
 
-    /// The number as a decimal number with `k` decimals, at most `MOST_DECIMALS`: `-` where it is below 0, the
-    /// whole part, and for `k > 0` a point and the decimals. It is cut towards 0 and never rounded, and a number
-    /// below 0 keeps its sign also where it shows as zero, as `-0.00`. Err only for want of memory.
+    /// The number as a decimal number with `k` decimals, at most `MOST_DECIMALS`: `-` where it is below 0,
+    /// the whole part, and for `k > 0` a point and the decimals. It is cut towards 0 and never rounded, and a
+    /// number below 0 keeps its sign also where it shows as zero, as `-0.00`. Err only for want of memory.
     pub fn digits(&self, alloc: Global, k: u32) -> Result<Text, NoMemory>
         requires { k ≤ MOST_DECIMALS }
         ensures { IfOk result (λ text. text ≡ decimal_text self.now k) }
@@ -152,7 +152,7 @@ impl PartialEq for Frac {
     /// Whether the two are one number.
     fn eq(&self, other: &Frac) -> bool
         ensures parts { result ≡ fraction_eq self.now other.now }
-        ensures one_number { IsTrue result ↔ ((self.now.num *ℤ pos other.now.den) ≡ (other.now.num *ℤ pos self.now.den)) }
+        ensures one_number { IsTrue result ↔ IsSameNumber self.now other.now }
     {
         self.has_parts_of(other)
     }

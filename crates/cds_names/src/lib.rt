@@ -1,5 +1,5 @@
-//! Which peak each component of a method names: the naming that no wanted pair of a component and a peak blocks.
-//! Begin at `name_peaks`.
+//! Which peak each component of a method names: the one naming that no wanted pair of a component and a peak
+//! blocks. Begin at `name_peaks`.
 #![tactic(auto)]
 
 mod names;

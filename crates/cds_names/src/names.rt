@@ -1,5 +1,5 @@
-ghost use Rattle.std.specs.Prelude.{◌≡◌, ◌<◌, ◌^◌, List, Option, ℕ, length, IfOk};
-ghost use Rattle.cds_names.specs.Naming.{IsUnblocked, peak_of};
+ghost use Rattle.std.specs.Prelude.{◌≡◌, ◌<◌, ◌^◌, length, IfOk};
+ghost use Rattle.cds_names.specs.Naming.{IsUnblocked, IsOnlyUnblocked, peak_of};
 ghost use Rattle.cds_names.specs.Giving.{peaks_with, taken_with};
 
 use crate::wanted::{Wanted, wanted_pairs};
@@ -31,17 +31,18 @@ impl Names {
     }
 }
 
-/// Names the peaks whose apexes are given, in microseconds from the start of the trace. A component wants each peak
-/// whose apex is at most its window's width from its expected time. Wanted pairs are ordered by that distance, then
-/// by the component's place, then by the peak's. A naming gives each component at most one wanted peak and each
-/// peak at most one component, and a wanted pair blocks it where its component has no peak or one of a later pair,
-/// and its peak has no component or one of a later pair. The answer is the one naming that no pair blocks. This is
-/// the project's own rule. Err only for want of memory.
+/// Names the peaks whose apexes are given, in microseconds from the start of the trace.
+///
+/// A component wants each peak whose apex is at most its window's width from its expected time. Wanted pairs
+/// are ordered by that distance, then by the component's place, then by the peak's. A naming gives each component
+/// at most one wanted peak and each peak at most one component. A wanted pair blocks it where its component has
+/// no peak or one of a later pair, and its peak has no component or one of a later pair. The answer is the one
+/// naming that no pair blocks. This is the project's own rule. Err only for want of memory.
 pub fn name_peaks(alloc: Global, windows: &[Window], apexes: &[u64]) -> Result<Names, NoMemory>
     requires few_windows { length windows.now < 2 ^ 32 }
     requires few_apexes { length apexes.now < 2 ^ 32 }
     ensures unblocked { IfOk result (IsUnblocked windows.now apexes.now) }
-    ensures only_one { IfOk result (λ names. (other : List (Option ℕ)) → IsUnblocked windows.now apexes.now other → other ≡ names) }
+    ensures only_one { IfOk result (IsOnlyUnblocked windows.now apexes.now) }
 {
     let pairs = wanted_pairs(alloc, windows, apexes)?;
     let mut peaks = vec![in alloc; None; windows.len()]?;
