@@ -8,9 +8,6 @@ use Rattle.cds_calib.specs.Line.{differ, corrected_xx}
 use Rattle.cds_calib.proofs.Squares.{gap}
 use Rattle.cds_calib.proofs.Spread.{gaps, corrected, corrected-cons}
 
-abbrev amount_of : Point → ℕ
-amount_of p = p.amount
-
 -- an amount other than x
 abbrev pub other_than : ℕ → Point → Bool
 other_than x q = not (eqb q.amount x)

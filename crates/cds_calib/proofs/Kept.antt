@@ -2,13 +2,13 @@
 use Rattle.std.proofs.Common.{◌≡◌, ℕ, suc, ◌+◌, ◌*◌, ◌<◌, ◌≤◌, List, length, get_or, sym, ap, ◌∙◌, subst, arith}
 use Rattle.std.specs.List.{All, sum_by, insert, remove}
 use Rattle.std.proofs.Math.Nat.{mul-le-mul}
-use Rattle.std.proofs.lemmas.List.Sums.{sum_by-le, sum_by-insert, sum_by-remove, get_or-le-sum_by}
+use Rattle.std.proofs.lemmas.List.Sums.{sum_by-le, sum_by-insert, sum_by-remove}
 use Rattle.std.proofs.lemmas.List.Elements.{All-weaker, All-append, All-cons, All-take, All-drop}
 use Rattle.std.proofs.lemmas.List.Edits.{length-insert, length-remove}
 use Rattle.cds_calib.specs.declared.point.Point.{Point}
 use Rattle.cds_calib.specs.declared.sums.Sums.{Sums}
 use Rattle.cds_calib.specs.Points.{IsPoint, IsCalibration}
-use Rattle.cds_calib.specs.Sums.{with_point, sums_of, IsSmall, HasPoint, IsKept}
+use Rattle.cds_calib.specs.Sums.{with_point, sums_of, IsSmall, IsKept}
 
 -- a sum over the points of a calibration is at most 64 times a bound of its terms
 pub sum_by-few : (f : Point → ℕ) (m : ℕ) (points : List Point) → IsCalibration points → ((p : Point) → IsPoint p → f p ≤ m) → sum_by f points ≤ 64 * m
@@ -29,16 +29,6 @@ IsSmall-sums_of points is = record {
   xx = omega (arith, sum_by-few (λ p. p.amount * p.amount) (1000000000 * 1000000000) points is (λ p at. product-le p.amount p.amount 1000000000 1000000000 at.amount at.amount));
   xy = omega (arith, sum_by-few (λ p. p.amount * p.area) (1000000000 * 4503599627370495) points is (λ p at. product-le p.amount p.area 1000000000 4503599627370495 at.amount (omega (arith, at.area))));
   yy = omega (arith, sum_by-few (λ p. p.area * p.area) (4503599627370495 * 4503599627370495) points is (λ p at. product-le p.area p.area 4503599627370495 4503599627370495 (omega (arith, at.area)) (omega (arith, at.area))));
-}
-
--- a point of the list may be taken out of its sums
-pub HasPoint-sums_of : (points : List Point) (i : ℕ) (d : Point) → i < length points → HasPoint (sums_of points) (get_or points i d)
-HasPoint-sums_of points i d within = record {
-  x = get_or-le-sum_by (λ p. p.amount) points i d within;
-  y = get_or-le-sum_by (λ p. p.area) points i d within;
-  xx = get_or-le-sum_by (λ p. p.amount * p.amount) points i d within;
-  xy = get_or-le-sum_by (λ p. p.amount * p.area) points i d within;
-  yy = get_or-le-sum_by (λ p. p.area * p.area) points i d within;
 }
 
 -- sums by their parts
@@ -93,11 +83,6 @@ sums_of-remove points i d within = sums_ext (with_point (sums_of (remove points 
     (sum_by-remove (λ q. q.amount * q.amount) points i d within)
     (sum_by-remove (λ q. q.amount * q.area) points i d within)
     (sum_by-remove (λ q. q.area * q.area) points i d within)
-
--- a point of a kept list may be taken out of the kept sums
-pub HasPoint-kept : (points : List Point) (i places : ℕ) (s : Sums) (p : Point) → IsKept points places s → i < length points → p ≡ get_or points i p → HasPoint s p
-HasPoint-kept points i places s p kept within is =
-    subst (λ t. HasPoint t p) (sym kept.sums) (subst (HasPoint (sums_of points)) (sym is) (HasPoint-sums_of points i p within))
 
 -- a calibration stays one with one point less
 pub IsKept-remove : (points fewer : List Point) (i places places' : ℕ) (s t : Sums) (p : Point) → IsKept points places s → i < length points → p ≡ get_or points i p → fewer ≡ remove points i → places' ≡ places → with_point t p ≡ s → IsKept fewer places' t

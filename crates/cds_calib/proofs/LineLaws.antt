@@ -121,21 +121,6 @@ pub weights_fit-past : (m : ℕ) (points : List Point) → (m < 2 ^ 60 → ⊥) 
 weights_fit-past m points past =
     if_false (weights_fit m points) (rising (inverse_line m points)) (Err Unfit) (ap (λ b. b && ltb (sum_x points * sum_wy m points) (2 ^ 126)) (le-ltb m (2 ^ 60) (omega arith)))
 
--- both numbers by the tests
-weights_fit_is : (m : ℕ) (points : List Point) (b : Bool) → m < 2 ^ 60 → ltb (sum_x points * sum_wy m points) (2 ^ 126) ≡ b → weights_fit m points ≡ b
-weights_fit_is m points b below is = ap (λ a. a && ltb (sum_x points * sum_wy m points) (2 ^ 126)) (lt-ltb m (2 ^ 60) below) ∙ is
-
--- a product past its limit
-pub weights_fit-high : (m x wy : ℕ) (points : List Point) → m < 2 ^ 60 → x ≡ sum_x points → wy ≡ sum_wy m points → (x * wy < 2 ^ 126 → ⊥) → Err Unfit ≡ cond (weights_fit m points) (rising (inverse_line m points)) (Err Unfit)
-weights_fit-high m x wy points below x_is wy_is past =
-    let same : x * wy ≡ sum_x points * sum_wy m points = ap₂ (λ a b. a * b) x_is wy_is in
-    if_false (weights_fit m points) (rising (inverse_line m points)) (Err Unfit) (weights_fit_is m points false below (le-ltb (sum_x points * sum_wy m points) (2 ^ 126) (omega arith)))
-
-pub weights_fit-low : (m x wy : ℕ) (points : List Point) → m < 2 ^ 60 → x ≡ sum_x points → wy ≡ sum_wy m points → x * wy < 2 ^ 126 → rising (inverse_line m points) ≡ cond (weights_fit m points) (rising (inverse_line m points)) (Err Unfit)
-weights_fit-low m x wy points below x_is wy_is low =
-    let same : x * wy ≡ sum_x points * sum_wy m points = ap₂ (λ a b. a * b) x_is wy_is in
-    if_true (weights_fit m points) (rising (inverse_line m points)) (Err Unfit) (weights_fit_is m points true below (lt-ltb (sum_x points * sum_wy m points) (2 ^ 126) (omega arith)))
-
 -- what the code has at hand: the count, the multiple, and the sums
 pub record Parts (points : List Point) (m n k w wy x y : ℕ) : Type 0 where
   pub shares : (0 < m) × All (Shares m) points
@@ -172,23 +157,6 @@ divisor_le points m n k w wy x y is =
 divisor_is : (points : List Point) (m n k w wy x y : ℕ) → Parts points m n k w wy x y → w * x - n * n * k ≡ weighted_divisor m points
 divisor_is points m n k w wy x y is =
     let same = divisor_parts points m n k w wy x y is in ap₂ (λ a b. a - b) same.1 same.0
-
-slope_is : (points : List Point) (m n k w wy x y : ℕ) → Parts points m n k w wy x y → w * y - n * wy ≡ sum_w m points * sum_y points - length points * sum_wy m points
-slope_is points m n k w wy x y is = ap₂ (λ a b. a - b) (ap₂ (λ a b. a * b) is.weights is.areas) (ap₂ (λ a b. a * b) is.count is.weighted)
-
-pub weighted-flat : (points : List Point) (m n k w wy x y s : ℕ) → Parts points m n k w wy x y → m < 2 ^ 60 → x * wy < 2 ^ 126 → s ≡ w * y - n * wy → s ≡ 0 → Err NotRising ≡ cond (weights_fit m points) (rising (inverse_line m points)) (Err Unfit)
-weighted-flat points m n k w wy x y s is below low s_is none =
-    rising-flat (inverse_line m points) s (s_is ∙ slope_is points m n k w wy x y is) none ∙ weights_fit-low m x wy points below is.amounts is.weighted low
-
-pub weighted-line : (points : List Point) (m n k w wy x y s h : ℕ) (i : ℤ) → Parts points m n k w wy x y → m < 2 ^ 60 → x * wy < 2 ^ 126 → s ≡ w * y - n * wy → (s ≡ 0 → ⊥) → h ≡ x * wy → i ≡ (pos h -ℤ pos (n * k * y)) → Ok (line_of Inverse (w * x - n * n * k) s i) ≡ cond (weights_fit m points) (rising (inverse_line m points)) (Err Unfit)
-weighted-line points m n k w wy x y s h i is below low s_is some h_is i_is =
-    let slope : s ≡ sum_w m points * sum_y points - length points * sum_wy m points = s_is ∙ slope_is points m n k w wy x y is in
-    let first : h ≡ sum_x points * sum_wy m points = h_is ∙ ap₂ (λ a b. a * b) is.amounts is.weighted in
-    let second : n * k * y ≡ length points * m * sum_y points = ap₂ (λ a b. a * b) (ap₂ (λ a b. a * b) is.count is.multiple) is.areas in
-    let intercept : i ≡ (pos (sum_x points * sum_wy m points) -ℤ pos (length points * m * sum_y points)) = i_is ∙ ap₂ (λ a b. pos a -ℤ pos b) first second in
-    ap Ok (line_eq Inverse (w * x - n * n * k) (weighted_divisor m points) s _ i _ (divisor_is points m n k w wy x y is) slope intercept)
-    ∙ rising-some (inverse_line m points) s slope some
-    ∙ weights_fit-low m x wy points below is.amounts is.weighted low
 
 pub IsFit-inverse : (points : List Point) (m n k w wy x y s h : ℕ) (i : ℤ) → Parts points m n k w wy x y → differ points ≡ true → m < 2 ^ 60 → n ≤ 64 → w < 2 ^ 66 → x < 2 ^ 36 → y < 2 ^ 58 → s ≡ w * y - n * wy → (s ≡ 0 → ⊥) → h < 2 ^ 126 → i ≡ (pos h -ℤ pos (n * k * y)) → IsFit (line_of Inverse (w * x - n * n * k) s i)
 IsFit-inverse points m n k w wy x y s h i is two below few w_below x_below y_below s_is some high i_is =

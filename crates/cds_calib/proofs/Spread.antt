@@ -45,9 +45,6 @@ corrected-cons f p points =
 one_product : (x u y v : ℕ) → gap (x * y + u * v) (x * v + y * u) * gap (x * y + u * v) (x * v + y * u) ≤ (gap x u * gap x u) * (gap y v * gap y v)
 one_product x u y v = rw (gap_product x u y v) (omega arith)
 
-regroup_gaps : (n x y u v a b c : ℕ) → (x * y + u * v) + (n * (x * y) + c) ≡ suc n * (x * y) + (u * v + c)
-regroup_gaps n x y u v a b c = omega arith
-
 -- the inequality for the differences from two numbers
 pub schwarz_gaps : (f g : Point → ℕ) (x y : ℕ) (points : List Point) → gap (length points * (x * y) + sum_by (λ p. f p * g p) points) (x * sum_by g points + y * sum_by f points) * gap (length points * (x * y) + sum_by (λ p. f p * g p) points) (x * sum_by g points + y * sum_by f points) ≤ gaps f x points * gaps g y points
 schwarz_gaps f g x y [] = let none : gap (0 * (x * y) + 0) (x * 0 + y * 0) ≡ 0 = omega arith in subst (λ h. h * h ≤ 0 * 0) (sym none) (omega arith)

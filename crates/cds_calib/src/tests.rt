@@ -35,10 +35,20 @@ fn lines_of_each_weight_and_why_there_is_none(rt: HostRuntime) -> Result<(), Fai
     let bent: [(u32, u64); 3] = [(1, 2), (2, 5), (4, 8)];
     let limits: [(u32, u64); 2] = [(1, 0), (1_000_000_000, FULL)];
     let five: [(u32, u64); 5] = [(10, 105), (20, 205), (50, 505), (100, 1005), (200, 2005)];
+    let eight: [(u32, u64); 8] = [
+        (999_999_993, 1),
+        (999_999_994, 2),
+        (999_999_995, 3),
+        (999_999_996, 4),
+        (999_999_997, 5),
+        (999_999_998, 6),
+        (999_999_999, 7),
+        (1_000_000_000, 8),
+    ];
     // amounts whose least common multiple is 2^60 - 1, and 2^60 + 6
     let below: [(u32, u64); 3] = [(7, 5), (191_889_225, 1_000_000), (858_323_713, 5_000_000)];
     let past: [(u32, u64); 3] = [(49, 5), (45_619_078, 1_000_000), (515_771_281, 5_000_000)];
-    // Sx Swy is the last multiple below 2^126, and the first one from there on
+    // Sx Swy is just below 2^126, and past it where one area is greater by 1
     let edge: [(u32, u64); 3] = [
         (7, 491_612_415_873),
         (191_889_225, FULL),
@@ -49,7 +59,7 @@ fn lines_of_each_weight_and_why_there_is_none(rt: HostRuntime) -> Result<(), Fai
         (191_889_225, FULL),
         (858_323_713, 4_503_599_570_611_401),
     ];
-    let cases: [(Weight, &[(u32, u64)], usize, Result<[i128; 4], Missing>); 18] = [
+    let cases: [(Weight, &[(u32, u64)], usize, Result<[i128; 4], Missing>); 19] = [
         (Weight::Equal, &rising, 1, Ok([10, 1, 5, 1])),
         (Weight::Equal, &bent, 1, Ok([27, 14, 1, 2])),
         (
@@ -115,6 +125,7 @@ fn lines_of_each_weight_and_why_there_is_none(rt: HostRuntime) -> Result<(), Fai
                 8_648_664_786_552_478_148_269_786,
             ]),
         ),
+        (Weight::Inverse, &eight, 1, Err(Missing::Unfit)),
         (Weight::Inverse, &past, 1, Err(Missing::Unfit)),
         (
             Weight::Inverse,
@@ -172,7 +183,7 @@ fn amounts_of_areas_up_to_the_limit(rt: HostRuntime) -> Result<(), Fail> {
         (Weight::Equal, &limits, FULL, 1, 1, Ok([1_000_000_000, 1])),
         (Weight::Origin, &[(10, 50)], 155, 1, 1, Ok([31, 1])),
         (Weight::Inverse, &five, 155, 1, 1, Ok([15, 1])),
-        // y D' is the last multiple of the divisor below 2^126, and the first one from there on
+        // y D' is just below 2^126, and past it where the area is greater by 1
         (
             Weight::Inverse,
             &below,
