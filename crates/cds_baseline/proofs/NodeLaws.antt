@@ -1,9 +1,11 @@
 -- The vertices of a whole chain are the nodes, each of them and no other point.
-use Rattle.std.proofs.Common.{◌≡◌, ◌∙◌, ℕ, zero, suc, ◌+◌, ◌-◌, ◌<◌, ◌≤◌, ℤ, Bool, true, false, ◌⊎◌, inl, inr, List, [], ◌∷◌, ◌++◌, length, get_or, map, take, ap, sym, arith, refl}
+use Rattle.std.proofs.Common.{◌≡◌, ◌∙◌, ℕ, zero, suc, ◌+◌, ◌-◌, ◌<◌, ◌≤◌, ℤ, pos, Bool, true, false, ◌⊎◌, inl, inr, List, [], ◌∷◌, ◌++◌, length, get_or, map, take, ap, sym, arith, refl}
 use Rattle.std.specs.Prelude.{nat_lt, not, ◌&&◌, ◌||◌, if◌then◌else◌}
 use Rattle.std.proofs.lemmas.Bool.{both_ways, cases_lt, cases_eq, cases_Bool, and_parts, and_from, and_left, and_right, lt-ltb, le-ltb, ltb-true}
-use Rattle.std.proofs.lemmas.List.{take_all, take_more}
-use Rattle.cds_baseline.specs.Chain.{under_of, IsRising, IsHidden, IsChain, vertex}
+use Rattle.std.proofs.lemmas.List.{take_all, take_more, get_or_default, get_or-map}
+use Rattle.cds_trace.specs.Signal.{Signal, sample_at}
+use Rattle.cds_baseline.specs.Nodes.{sample_of, is_fixed, node_samples}
+use Rattle.cds_baseline.specs.Chain.{under_of, IsRising, IsHidden, IsChain, vertex, level_of}
 use Rattle.cds_baseline.specs.Numbers.{each_below, passing}
 use Rattle.cds_baseline.proofs.NumberLaws.{each_below-from, each_below-at, each_below-fails}
 use Rattle.cds_baseline.proofs.HullLaws.{vertex-above, chain-order}
@@ -152,3 +154,23 @@ chain-levels x y y' f s m q chain inside same = record {
     | inr under ↦ inr (rw (same (s j) (inside j (omega arith)), same (s (j + 1)) (inside (j + 1) (omega arith)), same (s (j + 2)) (inside (j + 2) below)) at under)
   ];
 }
+
+-- the samples of a whole chain are those of the nodes
+pub hull-nodes : (signal : Signal) (points : List ℕ) (levels : List ℤ) (fixed : List Bool) (numbers : List ℕ) → levels ≡ map (λ p. sample_at signal p) points →
+    IsRising (sample_of points) (length points) → IsChain (sample_of points) (level_of levels) (is_fixed fixed) (vertex numbers) (length numbers) →
+    0 < length numbers → vertex numbers (length numbers - 1) + 1 ≡ length points → is_fixed fixed 0 ≡ true → is_fixed fixed (length points - 1) ≡ true →
+    map (sample_of points) numbers ≡ node_samples signal points fixed
+hull-nodes signal points levels fixed numbers read rising chain some end first last =
+    let y' : ℕ → ℤ = λ i. sample_at signal (sample_of points i) in
+    let same : (k : ℕ) → k < length points → level_of levels k ≡ y' k = λ k below.
+        rw read (get_or-map (λ p. sample_at signal p) points k 0 (pos 0) below) in
+    let inside = vertex-inside (sample_of points) (level_of levels) (is_fixed fixed) (vertex numbers) (length points) (length numbers) chain (λ any. end) in
+    let over : IsChain (sample_of points) y' (is_fixed fixed) (vertex numbers) (length numbers) =
+        chain-levels (sample_of points) (level_of levels) y' (is_fixed fixed) (vertex numbers) (length points) (length numbers) chain inside same in
+    sym (ap (map (sample_of points)) (chain-nodes (sample_of points) y' (is_fixed fixed) (length points) numbers rising over some end first last))
+
+-- each number of a whole chain is one of a point
+pub chain-inside : (x : ℕ → ℕ) (y : ℕ → ℤ) (f : ℕ → Bool) (m : ℕ) (numbers : List ℕ) → IsChain x y f (vertex numbers) (length numbers) →
+    (0 < length numbers → vertex numbers (length numbers - 1) + 1 ≡ m) → (k d : ℕ) → k < length numbers → get_or numbers k d < m
+chain-inside x y f m numbers chain whole k d below =
+    rw (get_or_default numbers k d 0 below) (vertex-inside x y f (vertex numbers) m (length numbers) chain whole k below)

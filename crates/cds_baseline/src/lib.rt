@@ -5,7 +5,9 @@
 #![tactic(auto)]
 
 mod hulls;
+mod nodes;
 mod slopes;
 mod tangents;
 
+pub use nodes::{Nodes, hull};
 pub use tangents::tangent;
