@@ -114,7 +114,12 @@ fn kept(chain: &[usize], next: usize, points: &[u32], levels: &[i32], fixed: &[b
 }
 
 /// The chain over all points: their numbers, in order.
-pub(crate) fn chain_over(alloc: Global, points: &[u32], levels: &[i32], fixed: &[bool]) -> Result<Vec<usize>, NoMemory>
+pub(crate) fn chain_over(
+    alloc: Global,
+    points: &[u32],
+    levels: &[i32],
+    fixed: &[bool],
+) -> Result<Vec<usize>, NoMemory>
     requires points { IsPoints points.now levels.now fixed.now }
     ensures chain { IfOk result (λ c. IsChain (sample_of points.now) (level_of levels.now) (is_fixed fixed.now) (vertex c.items) (vec_len c)) }
     ensures whole { IfOk result (λ c. 0 < length points.now → (0 < vec_len c) × (vertex c.items (vec_len c - 1) + 1 ≡ length points.now)) }

@@ -4,10 +4,13 @@
 //! the sample at which the tangent from a valley leaves the signal.
 #![tactic(auto)]
 
+mod baselines;
 mod hulls;
-mod nodes;
+mod node_list;
+mod points;
 mod slopes;
 mod tangents;
 
-pub use nodes::{Nodes, hull};
+pub use baselines::{hull, nodes};
+pub use node_list::Nodes;
 pub use tangents::tangent;

@@ -1,6 +1,6 @@
 use Rattle.std.proofs.Common.{◌≡◌, ◌+◌, map, take, vec_len}
 use Rattle.cds_trace.specs.Signal.{sample_at}
-use Rattle.cds_baseline.proofs.nodes.levels_at.Given as goal
+use Rattle.cds_baseline.proofs.baselines.levels_at.Given as goal
 
 abbrev pub invariant-loop-point : goal.invariant-loop-point
 invariant-loop-point g l =
