@@ -24,7 +24,7 @@ pub record Below (x : ℕ → ℕ) (y : ℕ → ℤ) (a b c d : ℕ) : Type 0 wh
 -- slopes in order
 AtMost-trans : (x : ℕ → ℕ) (y : ℕ → ℤ) (a b c d e g : ℕ) → x c < x d → AtMost x y a b c d → AtMost x y c d e g → AtMost x y a b e g
 AtMost-trans x y a b c d e g some first second = record {
-  le = slope-trans (y b -ℤ y a) (y d -ℤ y c) (y g -ℤ y e) (x b - x a) (x d - x c) (x g - x e) (omega arith) first.le second.le
+  le = slope-trans (y b -ℤ y a) (y d -ℤ y c) (y g -ℤ y e) (x b - x a) (x d - x c) (x g - x e) (omega arith) first.le second.le;
 }
 
 -- over plain numbers: a slope below one that is at most a third, and the other way round
@@ -80,12 +80,12 @@ triple x y m a i b rising left right inside =
 -- bound the slope of the whole
 over-left : (x : ℕ → ℕ) (y : ℕ → ℤ) (a i b : ℕ) → Triple x y a i b → under_of x y a i b ≡ false → AtMost x y a b a i
 over-left x y a i b t over = record {
-  le = omega (arith, ints, t.chord, t.by_left, lt-false (y i *ℤ pos (x b - x a)) (y a *ℤ pos (x b - x i) +ℤ y b *ℤ pos (x i - x a)) over)
+  le = omega (arith, ints, t.chord, t.by_left, lt-false (y i *ℤ pos (x b - x a)) (y a *ℤ pos (x b - x i) +ℤ y b *ℤ pos (x i - x a)) over);
 }
 
 over-right : (x : ℕ → ℕ) (y : ℕ → ℤ) (a i b : ℕ) → Triple x y a i b → under_of x y a i b ≡ false → AtMost x y i b a b
 over-right x y a i b t over = record {
-  le = omega (arith, ints, t.chord, t.by_right, lt-false (y i *ℤ pos (x b - x a)) (y a *ℤ pos (x b - x i) +ℤ y b *ℤ pos (x i - x a)) over)
+  le = omega (arith, ints, t.chord, t.by_right, lt-false (y i *ℤ pos (x b - x a)) (y a *ℤ pos (x b - x i) +ℤ y b *ℤ pos (x i - x a)) over);
 }
 
 -- and each of the two bounds shows it
@@ -100,7 +100,7 @@ over-from_right x y a i b t h =
 -- the chord passes above the middle: the slope left of it is below the one right of it
 under-bends : (x : ℕ → ℕ) (y : ℕ → ℤ) (a i b : ℕ) → Triple x y a i b → under_of x y a i b ≡ true → Below x y a i i b
 under-bends x y a i b t under = record {
-  lt = omega (arith, ints, t.chord, lt-true (y i *ℤ pos (x b - x a)) (y a *ℤ pos (x b - x i) +ℤ y b *ℤ pos (x i - x a)) under)
+  lt = omega (arith, ints, t.chord, lt-true (y i *ℤ pos (x b - x a)) (y a *ℤ pos (x b - x i) +ℤ y b *ℤ pos (x i - x a)) under);
 }
 
 bends-under : (x : ℕ → ℕ) (y : ℕ → ℤ) (a i b : ℕ) → Triple x y a i b → Below x y a i i b → under_of x y a i b ≡ true
@@ -133,26 +133,26 @@ reached-drop x y f s m q next rising inside chain reached free over =
     let far : s (q + 1) < next = reached.below (q + 1) (omega arith) in
     let whole = triple x y m (s q) (s (q + 1)) next rising step far inside in
     let hidden : (c : ℕ) → s q < c → c < next → IsHidden x y f (s q) c next = λ c after under.
-        elim (cases_order c (s (q + 1))) [
-            inl same ↦ record { free = rw same free; over = rw same over }
-          | inr (inl left) ↦
-              let h = chain.hides q c (omega arith) after left in
-              record {
-                free = h.free;
-                over = over-from_left x y (s q) c next (triple x y m (s q) c next rising after under inside)
-                    (AtMost-trans x y (s q) next (s q) (s (q + 1)) (s q) c (omega (arith, whole.left)) (over-left x y (s q) (s (q + 1)) next whole over)
-                        (over-left x y (s q) c (s (q + 1)) (triple x y m (s q) c (s (q + 1)) rising after left (omega arith)) h.over));
-              }
-          | inr (inr right) ↦
-              let h : IsHidden x y f (s (q + 1)) c next = rw last at (reached.hides c (omega arith) (rw last right) under) in
-              record {
-                free = h.free;
-                over = over-from_right x y (s q) c next (triple x y m (s q) c next rising after under inside)
-                    (AtMost-trans x y c next (s (q + 1)) next (s q) next (omega (arith, whole.right))
-                        (over-right x y (s (q + 1)) c next (triple x y m (s (q + 1)) c next rising right under inside) h.over)
-                        (over-right x y (s q) (s (q + 1)) next whole over));
-              }
-        ] in
+    elim (cases_order c (s (q + 1))) [
+      | inl same ↦ record { free = rw same free; over = rw same over }
+      | inr (inl left) ↦
+          let h = chain.hides q c (omega arith) after left in
+          record {
+            free = h.free;
+            over = over-from_left x y (s q) c next (triple x y m (s q) c next rising after under inside)
+                (AtMost-trans x y (s q) next (s q) (s (q + 1)) (s q) c (omega (arith, whole.left)) (over-left x y (s q) (s (q + 1)) next whole over)
+                (over-left x y (s q) c (s (q + 1)) (triple x y m (s q) c (s (q + 1)) rising after left (omega arith)) h.over));
+          }
+      | inr (inr right) ↦
+          let h : IsHidden x y f (s (q + 1)) c next = rw last at (reached.hides c (omega arith) (rw last right) under) in
+          record {
+            free = h.free;
+            over = over-from_right x y (s q) c next (triple x y m (s q) c next rising after under inside)
+                (AtMost-trans x y c next (s (q + 1)) next (s q) next (omega (arith, whole.right))
+                (over-right x y (s (q + 1)) c next (triple x y m (s (q + 1)) c next rising right under inside) h.over)
+                (over-right x y (s q) (s (q + 1)) next whole over));
+          }
+    ] in
     record {
       below = λ j below. reached.below j (omega arith);
       hides = λ c some after under. rw before (hidden c (rw before at after) under);
@@ -164,15 +164,15 @@ pub chain-longer : (x : ℕ → ℕ) (y : ℕ → ℤ) (f : ℕ → Bool) (s s' 
     ((j : ℕ) → j < q → s' j ≡ s j) → s' q ≡ next → IsChain x y f s' (q + 1)
 chain-longer x y f s s' q next chain reached start kept same new = record {
   first = λ some. elim (cases_eq q 0) [
-      inl none ↦ rw none at new ∙ start none
+    | inl none ↦ rw none at new ∙ start none
     | inr more ↦ same 0 (omega arith) ∙ chain.first (omega arith)
   ];
   rises = λ j below. elim (cases_eq (j + 1) q) [
-      inl last ↦ rw (same j (omega arith), last, new) (reached.below j (omega arith))
+    | inl last ↦ rw (same j (omega arith), last, new) (reached.below j (omega arith))
     | inr other ↦ rw (same j (omega arith), same (j + 1) (omega arith)) (chain.rises j (omega arith))
   ];
   hides = λ j c below after under. elim (cases_eq (j + 1) q) [
-      inl last ↦
+    | inl last ↦
         let at : q - 1 ≡ j = omega arith in
         let after' = rw (same j (omega arith)) at after in
         let under' = rw (last, new) at under in
@@ -183,7 +183,7 @@ chain-longer x y f s s' q next chain reached start kept same new = record {
         rw (here, next') (chain.hides j c (omega arith) (rw here at after) (rw next' at under))
   ];
   bends = λ j below. elim (cases_eq (j + 2) q) [
-      inl last ↦
+    | inl last ↦
         let a : q - 2 ≡ j = omega arith in
         let b : q - 1 ≡ j + 1 = omega arith in
         rw (same j (omega arith), same (j + 1) (omega arith), last, new) (rw (a, b) at (kept (omega arith)))
@@ -202,8 +202,8 @@ chain-order x y f s q chain j (suc d) below =
 pub reached-next : (x : ℕ → ℕ) (y : ℕ → ℤ) (f : ℕ → Bool) (s : ℕ → ℕ) (q next : ℕ) → IsChain x y f s q → (0 < q → s (q - 1) + 1 ≡ next) → IsReached x y f s q next
 reached-next x y f s q next chain last = record {
   below = λ j below.
-    let e : j + (q - 1 - j) ≡ q - 1 = omega arith in
-    omega (arith, rw e at (chain-order x y f s q chain j (q - 1 - j) (omega arith)), last (omega arith));
+      let e : j + (q - 1 - j) ≡ q - 1 = omega arith in
+      omega (arith, rw e at (chain-order x y f s q chain j (q - 1 - j) (omega arith)), last (omega arith));
   hides = λ c some after under. absurd (omega (arith, last some));
 }
 
@@ -227,11 +227,11 @@ pub top-kept : (x : ℕ → ℕ) (y : ℕ → ℤ) (f : ℕ → Bool) (s : ℕ �
     (f (s (q - 1)) ≡ true) ⊎ (under_of x y (s (q - 2)) (s (q - 1)) next ≡ true)
 top-kept x y f s q next shown two =
     elim (and_cases (nat_le 2 q) (not (f (s (q - 1))) && not (under_of x y (s (q - 2)) (s (q - 1)) next)) shown) [
-        inl short ↦ absurd (omega (arith, leb-false 2 q short))
+      | inl short ↦ absurd (omega (arith, leb-false 2 q short))
       | inr rest ↦ elim (and_cases (not (f (s (q - 1)))) (not (under_of x y (s (q - 2)) (s (q - 1)) next)) rest) [
-            inl fixed ↦ inl (not-false (f (s (q - 1))) fixed)
-          | inr under ↦ inr (not-false (under_of x y (s (q - 2)) (s (q - 1)) next) under)
-        ]
+        | inl fixed ↦ inl (not-false (f (s (q - 1))) fixed)
+        | inr under ↦ inr (not-false (under_of x y (s (q - 2)) (s (q - 1)) next) under)
+      ]
     ]
 
 -- one vertex less
@@ -280,8 +280,8 @@ chain_over-next x y f old q count k h few some reached shown =
     let at : count + 1 - 1 ≡ count = omega arith in
     let new : vertex (take count old ++ k ∷ []) count ≡ k = get_or_at (take count old) k [] 0 count front in
     let same : (j : ℕ) → j < count → vertex (take count old ++ k ∷ []) j ≡ vertex old j = λ j below.
-        let inside : j < length (take count old) = rw front below in
-        get_or_append_left (take count old) (k ∷ []) 0 j inside ∙ get_or-take count old j 0 below in
+    let inside : j < length (take count old) = rw front below in
+    get_or_append_left (take count old) (k ∷ []) 0 j inside ∙ get_or-take count old j 0 below in
     record {
       whole = omega (arith, length-append (take count old) (k ∷ []), front);
       chain = chain-longer x y f (vertex old) (vertex (take count old ++ k ∷ [])) count k (chain-shorter x y f (vertex old) q count few h.chain) reached
@@ -299,7 +299,7 @@ left-slopes x y f s m q rising chain inside zero a below left free =
     let first = chain.first (omega arith) in
     let here = chain.rises 0 (omega arith) in
     elim (cases_eq a (s 0)) [
-        inl same ↦ rw same (record { le = omega (arith, ints) })
+      | inl same ↦ rw same (record { le = omega (arith, ints) })
       | inr other ↦
           let t = triple x y m (s 0) a (s 1) rising (omega arith) (rw e at left) (inside 1 (omega arith)) in
           rw e (over-right x y (s 0) a (s 1) t (chain.hides 0 a (omega arith) (omega arith) left).over)
@@ -313,16 +313,16 @@ left-slopes x y f s m q rising chain inside (suc j) a below left free =
     let left' = rw e' at left in
     rw (e', e)
     (elim (cases_order a (s (j + 1))) [
-        inl same ↦ rw same (record { le = omega (arith, ints) })
+      | inl same ↦ rw same (record { le = omega (arith, ints) })
       | inr (inl before) ↦
           let bend : Below x y (s j) (s (j + 1)) (s (j + 1)) (s (j + 2)) = elim (chain.bends j (omega arith)) [
-              inl fixed ↦ absurd (both_ways (f (s (j + 1))) (free (s (j + 1)) before here') fixed)
+            | inl fixed ↦ absurd (both_ways (f (s (j + 1))) (free (s (j + 1)) before here') fixed)
             | inr under ↦ under-bends x y (s j) (s (j + 1)) (s (j + 2)) (triple x y m (s j) (s (j + 1)) (s (j + 2)) rising (chain.rises j (omega arith)) here end) under
           ] in
           let rest = left-slopes x y f s m q rising chain inside j a (omega arith) before (λ k after under. free k after (omega arith)) in
           rises-right x y a (s (j + 1)) (s (j + 2)) (triple x y m a (s (j + 1)) (s (j + 2)) rising before here end)
-              (AtMost-trans x y a (s (j + 1)) (s j) (s (j + 1)) (s (j + 1)) (s (j + 2)) (rising (s j) (s (j + 1)) (chain.rises j (omega arith)) (omega (arith, here, end))) rest
-                  (record { le = omega (arith, ints, bend.lt) }))
+          (AtMost-trans x y a (s (j + 1)) (s j) (s (j + 1)) (s (j + 1)) (s (j + 2)) (rising (s j) (s (j + 1)) (chain.rises j (omega arith)) (omega (arith, here, end))) rest
+          (record { le = omega (arith, ints, bend.lt) }))
       | inr (inr after) ↦
           let t = triple x y m (s (j + 1)) a (s (j + 2)) rising after left' end in
           over-right x y (s (j + 1)) a (s (j + 2)) t (rw (e', e) at (chain.hides (suc j) a below (rw e after) left)).over
@@ -333,10 +333,10 @@ right-near : (x : ℕ → ℕ) (y : ℕ → ℤ) (f : ℕ → Bool) (s : ℕ →
     (j b : ℕ) → j + 1 < q → s j < b → (s (j + 1) < b → AtMost x y (s j) (s (j + 1)) (s j) b) → AtMost x y (s j) (s (j + 1)) (s j) b
 right-near x y f s m q rising chain inside j b below right beyond =
     elim (cases_order b (s (j + 1))) [
-        inl same ↦ rw same (record { le = omega (arith, ints) })
+      | inl same ↦ rw same (record { le = omega (arith, ints) })
       | inr (inl before) ↦
           over-left x y (s j) b (s (j + 1)) (triple x y m (s j) b (s (j + 1)) rising right before (inside (j + 1) below))
-              (chain.hides j b below right before).over
+          (chain.hides j b below right before).over
       | inr (inr after) ↦ beyond after
     ]
 
@@ -347,24 +347,24 @@ right-slopes : (x : ℕ → ℕ) (y : ℕ → ℤ) (f : ℕ → Bool) (s : ℕ �
 right-slopes x y f s m q rising chain inside whole zero j b count right within free =
     right-near x y f s m q rising chain inside j b (omega arith) right
     (λ after.
-        let last : q - 1 ≡ j + 1 = omega arith in
-        let end : s (j + 1) + 1 ≡ m = rw last at (whole (omega arith)) in
-        absurd (omega arith))
+    let last : q - 1 ≡ j + 1 = omega arith in
+    let end : s (j + 1) + 1 ≡ m = rw last at (whole (omega arith)) in
+    absurd (omega arith))
 right-slopes x y f s m q rising chain inside whole (suc more) j b count right within free =
     right-near x y f s m q rising chain inside j b (omega arith) right
     (λ after.
-        let here : s j < s (j + 1) = chain.rises j (omega arith) in
-        let e : j + 1 + 1 ≡ j + 2 = omega arith in
-        let next : s (j + 1) < s (j + 2) = rw e at (chain.rises (j + 1) (omega arith)) in
-        let bend : Below x y (s j) (s (j + 1)) (s (j + 1)) (s (j + 2)) = elim (chain.bends j (omega arith)) [
-            inl fixed ↦ absurd (both_ways (f (s (j + 1))) (free (s (j + 1)) here after) fixed)
-          | inr under ↦ under-bends x y (s j) (s (j + 1)) (s (j + 2)) (triple x y m (s j) (s (j + 1)) (s (j + 2)) rising here next (inside (j + 2) (omega arith))) under
-        ] in
-        let rest : AtMost x y (s (j + 1)) (s (j + 2)) (s (j + 1)) b =
-            rw e at (right-slopes x y f s m q rising chain inside whole more (j + 1) b (omega arith) after within (λ k past under. free k (omega arith) under)) in
-        rises-left x y (s j) (s (j + 1)) b (triple x y m (s j) (s (j + 1)) b rising here after within)
-            (AtMost-trans x y (s j) (s (j + 1)) (s (j + 1)) (s (j + 2)) (s (j + 1)) b (rising (s (j + 1)) (s (j + 2)) next (inside (j + 2) (omega arith)))
-                (record { le = omega (arith, ints, bend.lt) }) rest))
+    let here : s j < s (j + 1) = chain.rises j (omega arith) in
+    let e : j + 1 + 1 ≡ j + 2 = omega arith in
+    let next : s (j + 1) < s (j + 2) = rw e at (chain.rises (j + 1) (omega arith)) in
+    let bend : Below x y (s j) (s (j + 1)) (s (j + 1)) (s (j + 2)) = elim (chain.bends j (omega arith)) [
+      | inl fixed ↦ absurd (both_ways (f (s (j + 1))) (free (s (j + 1)) here after) fixed)
+      | inr under ↦ under-bends x y (s j) (s (j + 1)) (s (j + 2)) (triple x y m (s j) (s (j + 1)) (s (j + 2)) rising here next (inside (j + 2) (omega arith))) under
+    ] in
+    let rest : AtMost x y (s (j + 1)) (s (j + 2)) (s (j + 1)) b =
+    rw e at (right-slopes x y f s m q rising chain inside whole more (j + 1) b (omega arith) after within (λ k past under. free k (omega arith) under)) in
+    rises-left x y (s j) (s (j + 1)) b (triple x y m (s j) (s (j + 1)) b rising here after within)
+    (AtMost-trans x y (s j) (s (j + 1)) (s (j + 1)) (s (j + 2)) (s (j + 1)) b (rising (s (j + 1)) (s (j + 2)) next (inside (j + 2) (omega arith)))
+    (record { le = omega (arith, ints, bend.lt) }) rest))
 
 -- a free vertex inside the chain: every chord over it in its stretch passes above it
 pub vertex-above : (x : ℕ → ℕ) (y : ℕ → ℤ) (f : ℕ → Bool) (s : ℕ → ℕ) (m q : ℕ) → IsRising x m → IsChain x y f s q → ((j : ℕ) → j < q → s j < m) →
@@ -376,18 +376,18 @@ vertex-above x y f s m q rising chain inside whole j a b below free left right w
     let before : s j < s (j + 1) = chain.rises j (omega arith) in
     let after : s (j + 1) < s (j + 2) = rw e at (chain.rises (j + 1) (omega arith)) in
     let bend : Below x y (s j) (s (j + 1)) (s (j + 1)) (s (j + 2)) = elim (chain.bends j below) [
-        inl fixed ↦ absurd (both_ways (f (s (j + 1))) free fixed)
+      | inl fixed ↦ absurd (both_ways (f (s (j + 1))) free fixed)
       | inr under ↦ under-bends x y (s j) (s (j + 1)) (s (j + 2)) (triple x y m (s j) (s (j + 1)) (s (j + 2)) rising before after (inside (j + 2) below)) under
     ] in
     let to : AtMost x y a (s (j + 1)) (s j) (s (j + 1)) = left-slopes x y f s m q rising chain inside j a (omega arith) left (λ k past under. stretch k past (omega arith)) in
     let from : AtMost x y (s (j + 1)) (s (j + 2)) (s (j + 1)) b =
-        rw e at (right-slopes x y f s m q rising chain inside whole (q - (j + 3)) (j + 1) b (omega arith) right within (λ k past under. stretch k (omega arith) under)) in
+    rw e at (right-slopes x y f s m q rising chain inside whole (q - (j + 3)) (j + 1) b (omega arith) right within (λ k past under. stretch k (omega arith) under)) in
     let run_a : x a < x i = rising a i left (inside (j + 1) (omega arith)) in
     let run_j : x (s j) < x i = rising (s j) i before (inside (j + 1) (omega arith)) in
     let run_n : x i < x (s (j + 2)) = rising i (s (j + 2)) after (inside (j + 2) below) in
     let run_b : x i < x b = rising i b right within in
     let first = le-below (y i -ℤ y a) (y i -ℤ y (s j)) (y (s (j + 2)) -ℤ y i) (x i - x a) (x i - x (s j)) (x (s (j + 2)) - x i)
-        (omega arith) (omega arith) to.le bend.lt in
+    (omega arith) (omega arith) to.le bend.lt in
     let both = below-le (y i -ℤ y a) (y (s (j + 2)) -ℤ y i) (y b -ℤ y i) (x i - x a) (x (s (j + 2)) - x i) (x b - x i)
-        (omega arith) (omega arith) first from.le in
+    (omega arith) (omega arith) first from.le in
     bends-under x y a i b (triple x y m a i b rising left right within) (record { lt = both })

@@ -3,3 +3,4 @@ pub mod SlopeLaws
 pub mod TangentLaws
 pub mod HullLaws
 pub mod NodeLaws
+pub mod PointLaws

@@ -8,7 +8,7 @@ pub each_below-at : (test : ℕ → Bool) (n k : ℕ) → each_below test n ≡ 
 each_below-at test zero k all below = absurd (omega arith)
 each_below-at test (suc n) k all below =
     elim (cases_eq k n) [
-        inl same ↦ rw same (and_parts _ _ all).1
+      | inl same ↦ rw same (and_parts _ _ all).1
       | inr other ↦ each_below-at test n k (and_parts _ _ all).0 (omega arith)
     ]
 
@@ -23,7 +23,7 @@ pub each_below-fails : (test : ℕ → Bool) (n k : ℕ) → k < n → test k �
 each_below-fails test zero k below fails = absurd (omega arith)
 each_below-fails test (suc n) k below fails =
     elim (cases_eq k n) [
-        inl same ↦ and_right (each_below test n) (test n) (rw same at fails)
+      | inl same ↦ and_right (each_below test n) (test n) (rw same at fails)
       | inr other ↦ and_left (each_below test n) (test n) (each_below-fails test n k (omega arith) fails)
     ]
 

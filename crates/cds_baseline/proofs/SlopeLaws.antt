@@ -31,7 +31,7 @@ level-by-slope left right here a b = rw (sub-mul here left (a + b), sub-mul righ
 -- the level of a chord by its slope
 pub chord-by-slope : (signal : Signal) (a b k : ℕ) → a ≤ k → k ≤ b →
     chord_by_span signal a b k +ℤ (sample_at signal k -ℤ sample_at signal a) *ℤ pos (b - a)
-        ≡ sample_at signal k *ℤ pos (b - a) +ℤ (sample_at signal b -ℤ sample_at signal a) *ℤ pos (k - a)
+    ≡ sample_at signal k *ℤ pos (b - a) +ℤ (sample_at signal b -ℤ sample_at signal a) *ℤ pos (k - a)
 chord-by-slope signal a b k left right =
     let whole : b - a ≡ (k - a) + (b - k) = omega arith in
     rw whole (level-by-slope (sample_at signal a) (sample_at signal b) (sample_at signal k) (k - a) (b - k))

@@ -31,16 +31,16 @@ clear-from : (signal : Signal) (v j : ℕ) → v ≤ j →
 clear-from signal v j order each =
     each_below-from (λ n. is_over signal v j (v + n)) (j - v + 1)
     (λ n below. over-from signal v j (v + n) (omega arith) (omega arith)
-        (elim (cases_eq n 0) [
-            inl start ↦
-                let here : v + 0 ≡ v = omega arith in
-                let none : v - v ≡ 0 = omega arith in
-                rw (start, here, none, flat-mul (sample_at signal v) (j - v)) (omega (arith, ints))
-          | inr beyond ↦ elim (cases_lt (v + n) j) [
-                inl before ↦ each (v + n) (omega arith) before
-              | inr end ↦ let e : v + n ≡ j = omega arith in rw e (omega (arith, ints))
-            ]
-        ]))
+    (elim (cases_eq n 0) [
+      | inl start ↦
+          let here : v + 0 ≡ v = omega arith in
+          let none : v - v ≡ 0 = omega arith in
+          rw (start, here, none, flat-mul (sample_at signal v) (j - v)) (omega (arith, ints))
+      | inr beyond ↦ elim (cases_lt (v + n) j) [
+        | inl before ↦ each (v + n) (omega arith) before
+        | inr end ↦ let e : v + n ≡ j = omega arith in rw e (omega (arith, ints))
+      ]
+    ]))
 
 -- the first sample behind v
 pub least-start : (signal : Signal) (v : ℕ) (least : Slope) → least.rise ≡ rise_to signal v (v + 1) → least.run ≡ v + 1 - v →
@@ -65,11 +65,11 @@ least-takes signal v j last least slope h rise run at_most =
     let some : 0 < least.run = omega (arith, h.run, h.beyond) in
     let before : (slope.rise *ℤ pos least.run) ≤ℤ (least.rise *ℤ pos slope.run) = omega (arith, ints, le-true (slope.rise *ℤ pos least.run) (least.rise *ℤ pos slope.run) at_most) in
     let each : (k : ℕ) → v < k → k ≤ j → (slope.rise *ℤ pos (k - v)) ≤ℤ (rise_to signal v k *ℤ pos slope.run) =
-        λ k after inside. slope-trans slope.rise least.rise (rise_to signal v k) slope.run least.run (k - v) some before (h.each k after inside) in
+    λ k after inside. slope-trans slope.rise least.rise (rise_to signal v k) slope.run least.run (k - v) some before (h.each k after inside) in
     let count : j + 1 - v ≡ (j - v) + 1 = omega (arith, h.beyond, h.inside) in
     let at : v + ((j - v) + 1) ≡ j + 1 = omega (arith, h.beyond, h.inside) in
     let clear : is_clear signal v (v + ((j - v) + 1)) ≡ true =
-        rw at (clear-from signal v (j + 1) (omega (arith, h.beyond, h.inside)) (λ k after inside. rw (rise, run) at (each k after (omega arith)))) in
+    rw at (clear-from signal v (j + 1) (omega (arith, h.beyond, h.inside)) (λ k after inside. rw (rise, run) at (each k after (omega arith)))) in
     record {
       beyond = omega (arith, h.beyond, h.inside);
       inside = omega arith;
@@ -77,7 +77,7 @@ least-takes signal v j last least slope h rise run at_most =
       run = run;
       value = rw (count, greatest-yes (λ n. is_clear signal v (v + n)) (j - v) clear) (omega arith);
       each = λ k after inside. elim (cases_eq k (j + 1)) [
-          inl end ↦ rw (end, rise, run) (omega (arith, ints))
+        | inl end ↦ rw (end, rise, run) (omega (arith, ints))
         | inr other ↦ each k after (omega arith)
       ];
     }
@@ -89,12 +89,12 @@ pub least-keeps : (signal : Signal) (v j last : ℕ) (least slope : Slope) → I
 least-keeps signal v j last least slope h rise run steeper =
     let above : (least.rise *ℤ pos slope.run) <ℤ (slope.rise *ℤ pos least.run) = omega (arith, ints, le-false (slope.rise *ℤ pos least.run) (least.rise *ℤ pos slope.run) steeper) in
     let under : is_over signal v (j + 1) (v + (last - v)) ≡ false =
-        let at : v + (last - v) ≡ last = omega (arith, h.beyond) in
-        rw at (over-not signal v (j + 1) last (omega (arith, h.beyond)) (omega (arith, h.inside)) (rw (rise, run, h.rise, h.run) at above)) in
+    let at : v + (last - v) ≡ last = omega (arith, h.beyond) in
+    rw at (over-not signal v (j + 1) last (omega (arith, h.beyond)) (omega (arith, h.inside)) (rw (rise, run, h.rise, h.run) at above)) in
     let count : j + 1 - v ≡ (j - v) + 1 = omega (arith, h.beyond, h.inside) in
     let at : v + ((j - v) + 1) ≡ j + 1 = omega (arith, h.beyond, h.inside) in
     let clear : is_clear signal v (v + ((j - v) + 1)) ≡ false =
-        rw at (each_below-fails (λ n. is_over signal v (j + 1) (v + n)) (j + 1 - v + 1) (last - v) (omega (arith, h.beyond, h.inside)) under) in
+    rw at (each_below-fails (λ n. is_over signal v (j + 1) (v + n)) (j + 1 - v + 1) (last - v) (omega (arith, h.beyond, h.inside)) under) in
     record {
       beyond = h.beyond;
       inside = omega (arith, h.inside);
@@ -102,7 +102,7 @@ least-keeps signal v j last least slope h rise run steeper =
       run = h.run;
       value = rw (count, greatest-no (λ n. is_clear signal v (v + n)) (j - v) clear) h.value;
       each = λ k after inside. elim (cases_eq k (j + 1)) [
-          inl end ↦ rw (end) (omega (arith, ints, rw (rise, run) at above))
+        | inl end ↦ rw (end) (omega (arith, ints, rw (rise, run) at above))
         | inr other ↦ h.each k after (omega arith)
       ];
     }
@@ -113,7 +113,7 @@ pub least-clear : (signal : Signal) (v j last : ℕ) (least : Slope) → IsLastL
 least-clear signal v j last least h k after inside =
     over-from signal v last k after inside
     (elim (cases_eq k v) [
-        inl start ↦
+      | inl start ↦
           let none : v - v ≡ 0 = omega arith in
           rw (start, none, flat-mul (sample_at signal v) (last - v)) (omega (arith, ints))
       | inr beyond ↦ rw (h.rise, h.run) at (h.each k (omega arith) (omega (arith, h.inside)))

@@ -19,7 +19,7 @@ under_of x y a i b = int_lt (y i *ℤ pos (x b - x a)) (y a *ℤ pos (x b - x i)
 abbrev pub IsRising : (ℕ → ℕ) → ℕ → Type 0
 IsRising x m = (a b : ℕ) → a < b → b < m → x a < x b
 
--- points as a cluster has them: each with its level, their samples rising, the first fixed
+-- points as a cluster has them: a level and a mark for each, their samples rising
 pub record IsPoints (points : List ℕ) (levels : List ℤ) (fixed : List Bool) : Type 0 where
   pub levels_whole : length levels ≡ length points
   pub fixed_whole : length fixed ≡ length points
@@ -45,3 +45,13 @@ pub record IsReached (x : ℕ → ℕ) (y : ℕ → ℤ) (f : ℕ → Bool) (s :
 -- whether the last of q vertices is left out by the chord from the one before it to a new point
 abbrev pub is_top_hidden : (ℕ → ℕ) → (ℕ → ℤ) → (ℕ → Bool) → (ℕ → ℕ) → ℕ → ℕ → Bool
 is_top_hidden x y f s q next = nat_le 2 q && (not (f (s (q - 1))) && not (under_of x y (s (q - 2)) (s (q - 1)) next))
+
+-- the same of points with their levels and marks, and of vertices as a list of numbers of points
+abbrev pub ChainOf : List ℕ → List ℤ → List Bool → List ℕ → ℕ → Type 0
+ChainOf points levels fixed chain count = IsChain (sample_of points) (level_of levels) (is_fixed fixed) (vertex chain) count
+
+abbrev pub ReachedFrom : List ℕ → List ℤ → List Bool → List ℕ → ℕ → ℕ → Type 0
+ReachedFrom points levels fixed chain count next = IsReached (sample_of points) (level_of levels) (is_fixed fixed) (vertex chain) count next
+
+abbrev pub hides_top : List ℕ → List ℤ → List Bool → List ℕ → ℕ → ℕ → Bool
+hides_top points levels fixed chain count next = is_top_hidden (sample_of points) (level_of levels) (is_fixed fixed) (vertex chain) count next

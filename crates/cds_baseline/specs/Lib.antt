@@ -3,3 +3,4 @@ pub mod Chord
 pub mod Tangent
 pub mod Nodes
 pub mod Chain
+pub mod Cluster

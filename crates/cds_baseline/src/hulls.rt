@@ -1,7 +1,7 @@
 ghost use Rattle.std.specs.Prelude.{◌≡◌, ◌+◌, ◌-◌, ◌<◌, ◌≤◌, false, IfOk, length, int_lt, pos, ◌*ℤ◌, ◌+ℤ◌};
 ghost use Rattle.std.specs.Vec.{vec_len};
-ghost use Rattle.cds_baseline.specs.Nodes.{sample_of, is_fixed};
-ghost use Rattle.cds_baseline.specs.Chain.{level_of, vertex, under_of, IsRising, IsPoints, IsChain, IsReached, is_top_hidden};
+ghost use Rattle.cds_baseline.specs.Nodes.{sample_of};
+ghost use Rattle.cds_baseline.specs.Chain.{level_of, vertex, under_of, IsRising, IsPoints, ChainOf, ReachedFrom, hides_top};
 
 use cds_base::NoMemory;
 use std::alloc::Global;
@@ -31,7 +31,8 @@ fn sum(left: i64, right: i64) -> i128
 fn is_below(a: Point, i: Point, b: Point) -> bool
     requires left { a.sample ≤ i.sample }
     requires right { i.sample ≤ b.sample }
-    ensures { result ≡ int_lt (i.level *ℤ pos (b.sample - a.sample)) (a.level *ℤ pos (b.sample - i.sample) +ℤ b.level *ℤ pos (i.sample - a.sample)) }
+    ensures { result ≡ int_lt (i.level *ℤ pos (b.sample - a.sample))
+        (a.level *ℤ pos (b.sample - i.sample) +ℤ b.level *ℤ pos (i.sample - a.sample)) }
 {
     let chord = sum(
         product(a.level, b.sample - i.sample),
@@ -79,11 +80,11 @@ fn is_top_hidden(
     fixed: &[bool],
 ) -> bool
     requires points { IsPoints points.now levels.now fixed.now }
-    requires chain { IsChain (sample_of points.now) (level_of levels.now) (is_fixed fixed.now) (vertex chain.now) count }
-    requires reached { IsReached (sample_of points.now) (level_of levels.now) (is_fixed fixed.now) (vertex chain.now) count next }
+    requires chain { ChainOf points.now levels.now fixed.now chain.now count }
+    requires reached { ReachedFrom points.now levels.now fixed.now chain.now count next }
     requires within { next < length points.now }
     requires count { count ≤ length chain.now }
-    ensures { result ≡ is_top_hidden (sample_of points.now) (level_of levels.now) (is_fixed fixed.now) (vertex chain.now) count next }
+    ensures { result ≡ hides_top points.now levels.now fixed.now chain.now count next }
 {
     if count < 2 {
         return false;
@@ -98,13 +99,13 @@ fn is_top_hidden(
 /// How many vertices of the chain stay when the point `next` is added: the others are left out by the chord to it.
 fn kept(chain: &[usize], next: usize, points: &[u32], levels: &[i32], fixed: &[bool]) -> usize
     requires points { IsPoints points.now levels.now fixed.now }
-    requires chain { IsChain (sample_of points.now) (level_of levels.now) (is_fixed fixed.now) (vertex chain.now) (length chain.now) }
-    requires reached { IsReached (sample_of points.now) (level_of levels.now) (is_fixed fixed.now) (vertex chain.now) (length chain.now) next }
+    requires chain { ChainOf points.now levels.now fixed.now chain.now (length chain.now) }
+    requires reached { ReachedFrom points.now levels.now fixed.now chain.now (length chain.now) next }
     requires within { next < length points.now }
     ensures few { result ≤ length chain.now }
     ensures some { 0 < length chain.now → 0 < result }
-    ensures reached { IsReached (sample_of points.now) (level_of levels.now) (is_fixed fixed.now) (vertex chain.now) result next }
-    ensures bends { is_top_hidden (sample_of points.now) (level_of levels.now) (is_fixed fixed.now) (vertex chain.now) result next ≡ false }
+    ensures reached { ReachedFrom points.now levels.now fixed.now chain.now result next }
+    ensures bends { hides_top points.now levels.now fixed.now chain.now result next ≡ false }
 {
     let mut count = chain.len();
     while is_top_hidden(chain, count, next, points, levels, fixed) {
@@ -114,9 +115,14 @@ fn kept(chain: &[usize], next: usize, points: &[u32], levels: &[i32], fixed: &[b
 }
 
 /// The chain over all points: their numbers, in order.
-fn chain_over(alloc: Global, points: &[u32], levels: &[i32], fixed: &[bool]) -> Result<Vec<usize>, NoMemory>
+pub(crate) fn chain_over(
+    alloc: Global,
+    points: &[u32],
+    levels: &[i32],
+    fixed: &[bool],
+) -> Result<Vec<usize>, NoMemory>
     requires points { IsPoints points.now levels.now fixed.now }
-    ensures chain { IfOk result (λ c. IsChain (sample_of points.now) (level_of levels.now) (is_fixed fixed.now) (vertex c.items) (vec_len c)) }
+    ensures chain { IfOk result (λ c. ChainOf points.now levels.now fixed.now c.items (vec_len c)) }
     ensures whole { IfOk result (λ c. 0 < length points.now → (0 < vec_len c) × (vertex c.items (vec_len c - 1) + 1 ≡ length points.now)) }
 {
     let mut chain = Vec::with_capacity(alloc, points.len())?;

@@ -11,7 +11,7 @@ pub kept-count-requires-clause-reached : goal.kept-count-requires-clause-reached
 kept-count-requires-clause-reached c =
     rw (c.as_slice.ensures.len, c.as_slice.ensures.value)
     (reached-next (sample_of c.args.points.now) (level_of c.args.levels.now) (is_fixed c.args.fixed.now) (vertex c.loop-next.chain.items) (vec_len c.loop-next.chain)
-        c.loop-next.next c.loop-next.invariant.chain c.loop-next.invariant.last)
+    c.loop-next.next c.loop-next.invariant.chain c.loop-next.invariant.last)
 
 pub loop-next-preserved : goal.loop-next-preserved
 loop-next-preserved c =

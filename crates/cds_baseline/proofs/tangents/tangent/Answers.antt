@@ -17,14 +17,16 @@ loop-j-preserved g c =
     let run = rw (← before) at c.slope_to-slope.ensures.run in
     let whole : c.loop-j.j + 1 - 1 ≡ c.loop-j.j = omega arith in
     elim c.if-is_at_most.branch [
-        then-is_at_most w ↦
+      | then-is_at_most w ↦
           let at_most = sym c.is_at_most.ensures ∙ w.if-is_at_most.true in
           let takes = least-takes c.args.trace.now c.args.v (c.loop-j.j - 1) c.loop-j.last c.loop-j.least c.slope_to-slope.result c.loop-j.invariant.0 rise run at_most in
           (rw (w.last-is, w.least-is, whole) (rw before at takes), rw w.least-is c.slope_to-slope.ensures.small, omega arith)
       | else-is_at_most w ↦
-          let steeper = sym c.is_at_most.ensures ∙ w.if-is_at_most.false in
-          (rw (w.last-is, w.least-is, next) (least-keeps c.args.trace.now c.args.v (c.loop-j.j - 1) c.loop-j.last c.loop-j.least c.slope_to-slope.result c.loop-j.invariant.0 rise run steeper),
-            rw w.least-is c.loop-j.invariant.1, omega arith)
+          let steeper = sym c.is_at_most.ensures ∙ w.if-is_at_most.false in (
+            rw (w.last-is, w.least-is, next) (least-keeps c.args.trace.now c.args.v (c.loop-j.j - 1) c.loop-j.last c.loop-j.least c.slope_to-slope.result c.loop-j.invariant.0 rise run steeper),
+            rw w.least-is c.loop-j.invariant.1,
+            omega arith,
+          )
     ]
 
 pub returns-clause-clear : goal.returns-clause-clear
