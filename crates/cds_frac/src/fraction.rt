@@ -53,6 +53,45 @@ impl Frac {
         Frac::from_parts(num, size / common, whole / common)
     }
 
+    /// The numerator of the number in lowest terms. It has the sign of the number.
+    pub fn num(&self) -> i128
+        ensures value { result ≡ self.now.num }
+        ensures shape { IsFrac self.now }
+    {
+        self.num
+    }
+
+    /// The denominator of the number in lowest terms, at least 1.
+    pub fn den(&self) -> i128
+        ensures value { result ≡ pos self.now.den }
+        ensures shape { IsFrac self.now }
+    {
+        self.den as i128
+    }
+
+    /// The number times `u / v`. None exactly where a part of the product in lowest terms is
+    /// `PART_LIMIT`, 2^126, or more.
+    pub fn times(&self, u: u32, v: u32) -> Option<Frac>
+        requires { 1 ≤ v }
+        ensures { let product = lowest_terms (self.now.num *ℤ pos u) (self.now.den * v) in SomeIff result (IsInRange product) product }
+    {
+        let size = self.num.unsigned_abs();
+        let parts = product_parts(size, self.den, u128::from(u), u128::from(v));
+        let Some((size, den)) = parts else {
+            return None;
+        };
+        Some(Frac::from_parts(self.num, size, den))
+    }
+
+    /// The greatest whole number that isn't above the number: it is rounded down, also below 0.
+    pub fn floor(&self) -> i128
+        ensures value { result ≡ floor_of self.now }
+        ensures not_above { (result *ℤ pos self.now.den) ≤ℤ self.now.num }
+        ensures next_above { self.now.num <ℤ ((result +ℤ pos 1) *ℤ pos self.now.den) }
+    {
+        self.num.div_euclid(self.den as i128)
+    }
+
     /// The number as a decimal number with `k` decimals, at most `MOST_DECIMALS`: `-` where it is below 0, the
     /// whole part, and for `k > 0` a point and the decimals. It is cut towards 0 and never rounded, and a number
     /// below 0 keeps its sign also where it shows as zero, as `-0.00`. Err only for want of memory.
@@ -102,45 +141,6 @@ impl Frac {
             num: with_sign_of(sign, size),
             den,
         }
-    }
-
-    /// The numerator of the number in lowest terms. It has the sign of the number.
-    pub fn num(&self) -> i128
-        ensures value { result ≡ self.now.num }
-        ensures shape { IsFrac self.now }
-    {
-        self.num
-    }
-
-    /// The denominator of the number in lowest terms, at least 1.
-    pub fn den(&self) -> i128
-        ensures value { result ≡ pos self.now.den }
-        ensures shape { IsFrac self.now }
-    {
-        self.den as i128
-    }
-
-    /// The number times `u / v`. None exactly where a part of the product in lowest terms is
-    /// `PART_LIMIT`, 2^126, or more.
-    pub fn times(&self, u: u32, v: u32) -> Option<Frac>
-        requires { 1 ≤ v }
-        ensures { let product = lowest_terms (self.now.num *ℤ pos u) (self.now.den * v) in SomeIff result (IsInRange product) product }
-    {
-        let size = self.num.unsigned_abs();
-        let parts = product_parts(size, self.den, u128::from(u), u128::from(v));
-        let Some((size, den)) = parts else {
-            return None;
-        };
-        Some(Frac::from_parts(self.num, size, den))
-    }
-
-    /// The greatest whole number that isn't above the number: it is rounded down, also below 0.
-    pub fn floor(&self) -> i128
-        ensures value { result ≡ floor_of self.now }
-        ensures not_above { (result *ℤ pos self.now.den) ≤ℤ self.now.num }
-        ensures next_above { self.now.num <ℤ ((result +ℤ pos 1) *ℤ pos self.now.den) }
-    {
-        self.num.div_euclid(self.den as i128)
     }
 }
 

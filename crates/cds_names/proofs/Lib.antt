@@ -1,0 +1,2 @@
+pub mod OneNaming
+pub mod Listing

@@ -1,0 +1,1 @@
+use Rattle.cds_names.proofs.wanted.wanted_pairs.Given as goal
