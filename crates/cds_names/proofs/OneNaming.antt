@@ -37,19 +37,19 @@ data Order (p q : Wanted) : Type 0 where
 order_of : (p q : Wanted) → Order p q
 order_of p q =
     elim (cases_order p.distance q.distance) [
-      inr (inl lt) ↦ before (inl lt)
-    | inr (inr lt) ↦ after (inl lt)
-    | inl near ↦
-      elim (cases_order p.component q.component) [
-        inr (inl lt) ↦ before (inr (near, inl lt))
-      | inr (inr lt) ↦ after (inr (sym near, inl lt))
-      | inl component ↦
-        elim (cases_order p.peak q.peak) [
-          inr (inl lt) ↦ before (inr (near, inr (component, lt)))
-        | inr (inr lt) ↦ after (inr (sym near, inr (sym component, lt)))
-        | inl peak ↦ same component peak
-        ]
-      ]
+      | inr (inl lt) ↦ before (inl lt)
+      | inr (inr lt) ↦ after (inl lt)
+      | inl near ↦
+          elim (cases_order p.component q.component) [
+            | inr (inl lt) ↦ before (inr (near, inl lt))
+            | inr (inr lt) ↦ after (inr (sym near, inl lt))
+            | inl component ↦
+                elim (cases_order p.peak q.peak) [
+                  | inr (inl lt) ↦ before (inr (near, inr (component, lt)))
+                  | inr (inr lt) ↦ after (inr (sym near, inr (sym component, lt)))
+                  | inl peak ↦ same component peak
+                ]
+          ]
     ]
 
 some_inj : {m n : ℕ} → Some m ≡ Some n → m ≡ n
@@ -82,38 +82,39 @@ module _ (windows : List Window) (apexes : List ℕ) where
       record {
         wanted = wanted;
         component_would = λ q q_wanted q_has component.
-          elim (order_of p q) [
-            before first ↦ first
-          | after first ↦
-            let peak : q.peak ≡ p.peak = some_inj (sym (agree q q_wanted (place_lt q p q_wanted first) q_has) ∙ ap (peak_of xs) component ∙ has) in
-            absurd (lacks (ap (peak_of ys) (sym component) ∙ q_has ∙ ap Some peak))
-          | same c peak ↦ absurd (lacks (ap (peak_of ys) c ∙ q_has ∙ ap Some (sym peak)))
-          ];
+            elim (order_of p q) [
+              | before first ↦ first
+              | after first ↦
+                  let peak : q.peak ≡ p.peak = some_inj (sym (agree q q_wanted (place_lt q p q_wanted first) q_has) ∙ ap (peak_of xs) component ∙ has) in
+                  absurd (lacks (ap (peak_of ys) (sym component) ∙ q_has ∙ ap Some peak))
+              | same c peak ↦ absurd (lacks (ap (peak_of ys) c ∙ q_has ∙ ap Some (sym peak)))
+            ];
         peak_would = λ q q_wanted q_has peak.
-          elim (order_of p q) [
-            before first ↦ first
-          | after first ↦
-            let component : q.component ≡ p.component = xs_is.no_peak_twice q.component p.component q.peak (agree q q_wanted (place_lt q p q_wanted first) q_has) (has ∙ ap Some (sym peak)) in
-            absurd (lacks (ap (peak_of ys) (sym component) ∙ q_has ∙ ap Some peak))
-          | same c e ↦ absurd (lacks (ap (peak_of ys) c ∙ q_has ∙ ap Some (sym e)))
-          ];
+            elim (order_of p q) [
+              | before first ↦ first
+              | after first ↦
+                  let component : q.component ≡ p.component = xs_is.no_peak_twice q.component p.component q.peak (agree q q_wanted (place_lt q p q_wanted first) q_has) (has ∙ ap Some (sym peak)) in
+                  absurd (lacks (ap (peak_of ys) (sym component) ∙ q_has ∙ ap Some peak))
+              | same c e ↦ absurd (lacks (ap (peak_of ys) c ∙ q_has ∙ ap Some (sym e)))
+            ];
       }
 
   -- two namings that no pair blocks agree on the pairs whose places are below k
   agree_below : (xs ys : List (Option ℕ)) (k : ℕ) → IsUnblocked windows apexes xs → IsUnblocked windows apexes ys → AgreeBefore xs ys k × AgreeBefore ys xs k
   agree_below xs ys zero xs_is ys_is = (λ p wanted below. absurd (omega arith), λ p wanted below. absurd (omega arith))
   agree_below xs ys (suc k) xs_is ys_is =
-      let known : AgreeBefore xs ys k × AgreeBefore ys xs k = agree_below xs ys k xs_is ys_is in
-      (λ p wanted below has.
-          elim (has_or_not ys p) [
-            inl there ↦ there
-          | inr lacks ↦ absurd (ys_is.unblocked p (blocks_other xs ys p xs_is.is_naming (λ q q_wanted earlier. known.1 q q_wanted (omega arith)) wanted has lacks))
-          ],
+      let known : AgreeBefore xs ys k × AgreeBefore ys xs k = agree_below xs ys k xs_is ys_is in (
         λ p wanted below has.
-          elim (has_or_not xs p) [
-            inl there ↦ there
-          | inr lacks ↦ absurd (xs_is.unblocked p (blocks_other ys xs p ys_is.is_naming (λ q q_wanted earlier. known.0 q q_wanted (omega arith)) wanted has lacks))
-          ])
+            elim (has_or_not ys p) [
+              | inl there ↦ there
+              | inr lacks ↦ absurd (ys_is.unblocked p (blocks_other xs ys p xs_is.is_naming (λ q q_wanted earlier. known.1 q q_wanted (omega arith)) wanted has lacks))
+            ],
+        λ p wanted below has.
+            elim (has_or_not xs p) [
+              | inl there ↦ there
+              | inr lacks ↦ absurd (xs_is.unblocked p (blocks_other ys xs p ys_is.is_naming (λ q q_wanted earlier. known.0 q q_wanted (omega arith)) wanted has lacks))
+            ],
+      )
 
   -- so each component has the same peak in both
   same_entry : (xs ys : List (Option ℕ)) → IsUnblocked windows apexes xs → IsUnblocked windows apexes ys → (c : ℕ) (x y : Option ℕ) → peak_of xs c ≡ x → peak_of ys c ≡ y → x ≡ y

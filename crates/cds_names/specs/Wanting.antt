@@ -1,5 +1,5 @@
 -- The wanted pairs of one component, and all of them in their order.
-use Rattle.std.specs.Prelude.{◌≡◌, ℕ, ◌<◌, ◌≤◌, List, length, slice_index_or, Contains}
+use Rattle.std.specs.Prelude.{◌≡◌, ℕ, ◌-◌, ◌<◌, ◌≤◌, List, length, slice_index_or}
 use Rattle.std.specs.Int.{abs_diff}
 use Rattle.cds_base.specs.declared.Window.{Window}
 use Rattle.cds_names.specs.declared.wanted.Wanted.{Wanted}
@@ -10,18 +10,19 @@ use Rattle.cds_names.specs.Naming.{IsBefore}
 abbrev pub IsInWindow : Window → Apex → Type 0
 IsInWindow window apex = abs_diff window.time_us apex.time ≤ window.width_us
 
+-- the apex comes before the window
+abbrev pub IsBeforeWindow : Window → Apex → Type 0
+IsBeforeWindow window apex = window.width_us < window.time_us - apex.time
+
+-- the apex comes after the window
+abbrev pub IsAfterWindow : Window → Apex → Type 0
+IsAfterWindow window apex = window.width_us < apex.time - window.time_us
+
 -- the pair of a component with this window and a peak with this apex
 abbrev pub pair_of : Window → ℕ → Apex → Wanted
 pair_of window component apex =
     record { distance = abs_diff window.time_us apex.time; component = component; peak = apex.peak }
 
--- the pair is one of this component and a listed apex in its window
-pub record IsPairOf (window : Window) (component : ℕ) (apexes : List Apex) (pair : Wanted) : Type 0 where
-  pub apex : Apex
-  pub listed : Contains apexes apex
-  pub in_window : IsInWindow window apex
-  pub is : pair ≡ pair_of window component apex
-
--- no pair comes before one that stands ahead of it
+-- no pair comes before itself or before one that stands ahead of it
 abbrev pub IsInOrder : List Wanted → Type 0
-IsInOrder pairs = (i j : ℕ) (d : Wanted) → i < j → j < length pairs → IsBefore (slice_index_or pairs j d) (slice_index_or pairs i d) → ⊥
+IsInOrder pairs = (i j : ℕ) (d : Wanted) → i ≤ j → j < length pairs → IsBefore (slice_index_or pairs j d) (slice_index_or pairs i d) → ⊥

@@ -3,6 +3,8 @@
 #![tactic(auto)]
 
 mod names;
+#[cfg(test)]
+mod tests;
 mod wanted;
 
 pub use names::{Names, name_peaks};

@@ -2,12 +2,10 @@ ghost use Rattle.std.specs.Prelude.{◌≡◌, ◌<◌, ◌^◌, List, Option, �
 ghost use Rattle.cds_names.specs.Naming.{IsUnblocked, peak_of};
 ghost use Rattle.cds_names.specs.Giving.{peaks_with, taken_with};
 
+use crate::wanted::{Wanted, wanted_pairs};
+use cds_base::{NoMemory, Window};
 use std::alloc::Global;
 use std::marker::Model;
-
-use cds_base::{NoMemory, Window};
-
-use crate::wanted::{Wanted, wanted_pairs};
 
 /// Which peak each component names. Components and peaks are known by their places, from 0. Seen as the list of
 /// the components' peaks.
