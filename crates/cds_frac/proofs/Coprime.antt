@@ -1,10 +1,10 @@
 -- Numbers without a common divisor.
-use Rattle.std.proofs.Common.{◌≡◌, ℕ, zero, suc, ◌+◌, ◌-◌, ◌*◌, ◌/◌, ◌%◌, ◌<◌, ◌≤◌, refl, sym, ap, ◌∙◌, subst, arith, mul_comm, mul_assoc, mul-zero, mod-lt, mul_left_comm}
+use Rattle.std.proofs.Common.{◌≡◌, ℕ, zero, suc, ◌+◌, ◌*◌, ◌/◌, ◌%◌, ◌<◌, ◌≤◌, refl, sym, ap, ◌∙◌, subst, arith, mul_comm, mul_assoc, mul-zero, mod-lt, mul_left_comm}
 use Rattle.std.specs.Int.{◌∣◌, IsGcd}
-use Rattle.std.proofs.Math.Nat.{mod-zero, add-mul, div-add-mod', mul-lt-mul_of_pos_right, dvd_refl, dvd-zero, dvd_trans, dvd_antisymm, dvd-mul_left, dvd-mul_right, dvd-mul_left_of_dvd, dvd-mul_right_of_dvd, div-mul_cancel, mul-dvd-mul_right, dvd_of_mul-dvd-mul_right, one-dvd, le_of_dvd, one-mul, mul-one, pos_of_dvd_of_pos}
+use Rattle.std.proofs.Math.Nat.{mod-zero, add-mul, div-add-mod', mul-lt-mul_of_pos_right, dvd_trans, dvd_antisymm, dvd-mul_left, dvd-mul_right, div-mul_cancel, mul-dvd-mul_right, dvd_of_mul-dvd-mul_right, one-dvd, one-mul, pos_of_dvd_of_pos}
 use Rattle.std.proofs.lemmas.Nat.{mod-mul-add}
 use Rattle.std.proofs.lemmas.Nat.Gcd.{IsGcd-from_mod, IsGcd-from_zero, IsGcd-swap, same_from_IsGcd}
-use Rattle.cds_frac.specs.Divisors.{AreCoprime, IsLcm, least_from}
+use Rattle.cds_frac.specs.Divisors.{AreCoprime, IsLcm}
 
 -- a remainder grows with its two numbers
 mod-mul_right : (a b c : ℕ) → 0 < b → a * c % (b * c) ≡ a % b * c
@@ -51,11 +51,14 @@ coprime_product a b c left right =
 
 -- divided by their greatest common divisor, two numbers have nothing in common
 pub coprime_quotients : (a b g : ℕ) → 0 < g → IsGcd a b g → AreCoprime (a / g) (b / g)
-coprime_quotients a b g some is =
-    (one-dvd (a / g), one-dvd (b / g), λ k p q.
-        let up : (n : ℕ) → g ∣ n → k ∣ n / g → k * g ∣ n = λ n whole part. subst (λ m. k * g ∣ m) (div-mul_cancel g whole) (mul-dvd-mul_right k part g) in
-        let one : k * g ∣ 1 * g = subst (λ m. k * g ∣ m) (sym (one-mul g)) (is.2 (k * g) (up a is.0 p) (up b is.1 q)) in
-        dvd_of_mul-dvd-mul_right k some one)
+coprime_quotients a b g some is = (
+  one-dvd (a / g),
+  one-dvd (b / g),
+  λ k p q.
+      let up : (n : ℕ) → g ∣ n → k ∣ n / g → k * g ∣ n = λ n whole part. subst (λ m. k * g ∣ m) (div-mul_cancel g whole) (mul-dvd-mul_right k part g) in
+      let one : k * g ∣ 1 * g = subst (λ m. k * g ∣ m) (sym (one-mul g)) (is.2 (k * g) (up a is.0 p) (up b is.1 q)) in
+      dvd_of_mul-dvd-mul_right k some one,
+)
 
 -- Euclid's step keeps the greatest common divisor
 pub gcd_step : (a b : ℕ) (x y : ℕ) → ((g : ℕ) → IsGcd x y g → IsGcd a b g) → (g : ℕ) → IsGcd y (x % y) g → IsGcd a b g
@@ -72,19 +75,20 @@ IsLcm-product a b g a_some b_some is =
     let some : 0 < g = pos_of_dvd_of_pos is.0 a_some in
     let left : a / g * g ≡ a = div-mul_cancel g is.0 in
     let right : b / g * g ≡ b = div-mul_cancel g is.1 in
-    let turned : a / g * b ≡ b / g * a = ap (λ n. a / g * n) (sym right) ∙ mul_left_comm (a / g) (b / g) g ∙ ap (λ n. b / g * n) left in
-    (subst (λ n. a ∣ n) (sym turned) (dvd-mul_left a (b / g)),
+    let turned : a / g * b ≡ b / g * a = ap (λ n. a / g * n) (sym right) ∙ mul_left_comm (a / g) (b / g) g ∙ ap (λ n. b / g * n) left in (
+      subst (λ n. a ∣ n) (sym turned) (dvd-mul_left a (b / g)),
       dvd-mul_left b (a / g),
       λ k p q.
-        let t : ℕ = k / a in
-        let whole : t * a ≡ k = div-mul_cancel a p in
-        let parts : t * (a / g) * g ≡ k = mul_assoc t (a / g) g ∙ ap (λ n. t * n) left ∙ whole in
-        let within : b / g * g ∣ t * (a / g) * g = subst (λ n. n ∣ t * (a / g) * g) (sym right) (subst (λ n. b ∣ n) (sym parts) q) in
-        let apart : AreCoprime (b / g) (a / g) = coprime_swap (a / g) (b / g) (coprime_quotients a b g some is) in
-        let rest : b / g ∣ a / g * t = subst (λ n. b / g ∣ n) (mul_comm t (a / g)) (dvd_of_mul-dvd-mul_right (b / g) some within) in
-        let last : b / g ∣ t = dvd_other_factor (b / g) (a / g) t apart rest in
-        let grown : b / g * a ∣ t * a = mul-dvd-mul_right (b / g) last a in
-        subst (λ n. n ∣ k) (sym turned) (subst (λ n. b / g * a ∣ n) whole grown))
+          let t : ℕ = k / a in
+          let whole : t * a ≡ k = div-mul_cancel a p in
+          let parts : t * (a / g) * g ≡ k = mul_assoc t (a / g) g ∙ ap (λ n. t * n) left ∙ whole in
+          let within : b / g * g ∣ t * (a / g) * g = subst (λ n. n ∣ t * (a / g) * g) (sym right) (subst (λ n. b ∣ n) (sym parts) q) in
+          let apart : AreCoprime (b / g) (a / g) = coprime_swap (a / g) (b / g) (coprime_quotients a b g some is) in
+          let rest : b / g ∣ a / g * t = subst (λ n. b / g ∣ n) (mul_comm t (a / g)) (dvd_of_mul-dvd-mul_right (b / g) some within) in
+          let last : b / g ∣ t = dvd_other_factor (b / g) (a / g) t apart rest in
+          let grown : b / g * a ∣ t * a = mul-dvd-mul_right (b / g) last a in
+          subst (λ n. n ∣ k) (sym turned) (subst (λ n. b / g * a ∣ n) whole grown),
+    )
 
 -- there is one least common multiple
 pub same_from_IsLcm : (a b m n : ℕ) → IsLcm a b m → IsLcm a b n → m ≡ n

@@ -1,3 +1,4 @@
 pub mod Coprime
 pub mod LowestTerms
 pub mod Ratios
+pub mod DecimalSteps

@@ -1,17 +1,17 @@
 -- A number in lowest terms: that it is the number, that it can't be shortened, and that no other fraction is.
-use Rattle.std.proofs.Common.{◌≡◌, ℕ, zero, suc, ◌+◌, ◌-◌, ◌*◌, ◌/◌, ◌%◌, ◌<◌, ◌≤◌, Bool, true, false, cond, eqb, ℤ, pos, negsuc, neg_ℤ, ◌*ℤ◌, unsigned_abs, refl, sym, ap, ap₂, ◌∙◌, subst, arith, int_cmp, nat_cmp, max, Ordering, Less, Equal, Greater, subst₂, ◌^◌, inl, inr, ◌⊎◌, mul_comm, mul_assoc, mul_right_comm, zero-mul, mul-div_cancel, mul-pos, eq-or-lt_of_le}
+use Rattle.std.proofs.Common.{◌≡◌, ℕ, zero, suc, ◌+◌, ◌-◌, ◌*◌, ◌/◌, ◌%◌, ◌<◌, ◌≤◌, Bool, true, false, cond, eqb, ℤ, pos, ◌*ℤ◌, unsigned_abs, refl, sym, ap, ap₂, ◌∙◌, subst, arith, int_cmp, nat_cmp, is_eq, ◌↔◌, max, Ordering, Less, Equal, Greater, subst₂, ◌^◌, inl, inr, mul_comm, mul_assoc, mul_right_comm, mul-div_cancel, mul-pos, eq-or-lt_of_le}
 use Rattle.std.specs.Int.{◌∣◌, IsGcd}
-use Rattle.std.proofs.Math.Nat.{dvd-mul_left, dvd-mul_right, div-mul_cancel, mul-mod_left, dvd_of_mod-eq-zero, le_of_dvd, one-dvd, eq_of_mul-eq-mul_right, pos_of_dvd_of_pos, ℕ_set}
+use Rattle.std.proofs.Math.Nat.{dvd-mul_left, div-mul_cancel, mul-mod_left, dvd_of_mod-eq-zero, le_of_dvd, eq_of_mul-eq-mul_right, pos_of_dvd_of_pos}
 use Rattle.std.specs.Ordering.{ordering_then}
+use Rattle.std.specs.Cmp.{int_cmp_is}
 use Rattle.std.proofs.Math.Nat.{max-eq_right}
 use Rattle.std.proofs.lemmas.Cmp.{int_ranked, tied_itself, nat_cmp_total}
-use Rattle.std.proofs.Math.IntN.{negsuc-*ℤ-pos}
-use Rattle.std.proofs.lemmas.Bool.{eq-eqb, eqb-true, ne_eqb}
+use Rattle.std.proofs.lemmas.Bool.{eq-eqb, ne_eqb}
 use Rattle.std.proofs.lemmas.Int.{unsigned_abs-mul}
 use Rattle.cds_frac.specs.Divisors.{AreCoprime, least_from}
 use Rattle.cds_frac.specs.Fraction.{Fraction, IsReduced, IsInRange, IsFrac, IsProduct, with_sign, least_den, lowest_terms}
-use Rattle.cds_frac.specs.FractionOrder.{ratio_cmp, number_cmp, fraction_cmp}
-use Rattle.cds_frac.specs.FractionLaws.{abs-with_sign, with_sign-abs, with_sign-mul, with_sign-cross, times_right_comm, times_cancel, times-times}
+use Rattle.cds_frac.specs.FractionOrder.{ratio_cmp, number_cmp, fraction_cmp, fraction_eq}
+use Rattle.cds_frac.specs.FractionLaws.{abs-with_sign, with_sign-abs, with_sign-mul, with_sign-cross, times_right_comm, times_cancel, times-times, fraction_eq-is}
 use Rattle.cds_frac.proofs.Coprime.{dvd_other_factor, coprime_swap, coprime_quotients, coprime_divisors, coprime_products, factor_divides, exists_gcd}
 
 -- the least number that passes is the one that passes after none did
@@ -20,8 +20,8 @@ unfolding least_from
 least_from-is test n zero k low high here before = omega arith
 least_from-is test n (suc turns) k low high here before =
     elim (eq-or-lt_of_le low) [
-      inl e ↦ ap (λ b. cond b n (least_from test (suc n) turns)) (ap test e ∙ here) ∙ e
-    | inr lt ↦ ap (λ b. cond b n (least_from test (suc n) turns)) (before n (omega arith) lt) ∙ least_from-is test (suc n) turns k lt (omega arith) here (λ j p q. before j (omega arith) q)
+      | inl e ↦ ap (λ b. cond b n (least_from test (suc n) turns)) (ap test e ∙ here) ∙ e
+      | inr lt ↦ ap (λ b. cond b n (least_from test (suc n) turns)) (before n (omega arith) lt) ∙ least_from-is test (suc n) turns k lt (omega arith) here (λ j p q. before j (omega arith) q)
     ]
 
 -- with p / q in lowest terms and equal to a / b, no denominator below q writes a / b
@@ -30,7 +30,7 @@ no_smaller_den p q a b j some apart same at_least below exact =
     let t : ℕ = a * j / b in
     let whole : t * b ≡ a * j = div-mul_cancel b (dvd_of_mod-eq-zero b exact) in
     let grown : (p * j) * b ≡ (t * q) * b =
-      mul_right_comm p j b ∙ ap (λ n. n * j) same ∙ mul_right_comm a q j ∙ ap (λ n. n * q) (sym whole) ∙ mul_right_comm t b q in
+    mul_right_comm p j b ∙ ap (λ n. n * j) same ∙ mul_right_comm a q j ∙ ap (λ n. n * q) (sym whole) ∙ mul_right_comm t b q in
     let divides : q ∣ p * j = subst (λ n. q ∣ n) (sym (eq_of_mul-eq-mul_right b some (p * j) (t * q) grown)) (dvd-mul_left q t) in
     let le : q ≤ j = le_of_dvd at_least (dvd_other_factor q p j (coprime_swap p q apart) divides) in
     omega arith
@@ -115,7 +115,7 @@ lowest_terms-same a c b d b_some d_some same =
     let f : Fraction = lowest_terms a b in
     let value : f.num *ℤ pos b ≡ a *ℤ pos f.den = lowest_terms-cross a b b_some in
     let grown : (f.num *ℤ pos d) *ℤ pos b ≡ (c *ℤ pos f.den) *ℤ pos b =
-      times_right_comm f.num d b ∙ ap (λ z. z *ℤ pos d) value ∙ times_right_comm a f.den d ∙ ap (λ z. z *ℤ pos f.den) same ∙ times_right_comm c b f.den in
+    times_right_comm f.num d b ∙ ap (λ z. z *ℤ pos d) value ∙ times_right_comm a f.den d ∙ ap (λ z. z *ℤ pos f.den) same ∙ times_right_comm c b f.den in
     lowest_terms-is f c d (IsReduced-lowest_terms a b b_some) d_some (times_cancel (f.num *ℤ pos d) (c *ℤ pos f.den) b b_some grown)
 
 -- a second order decides nothing where it ties with the first
@@ -136,8 +136,21 @@ fraction_cmp-reduced f g f_reduced g_reduced =
     ap (λ r. ordering_then r (nat_cmp f.den g.den)) number
     ∙ then_ties (ratio_cmp f.num f.den g.num g.den) (nat_cmp f.den g.den)
     (λ tied.
-        let cross : f.num *ℤ pos g.den ≡ g.num *ℤ pos f.den = same_from_int_cmp (f.num *ℤ pos g.den) (g.num *ℤ pos f.den) tied in
-        ap (λ h. nat_cmp f.den h.den) (sym (same_from_cross f g f_reduced g_reduced cross)) ∙ tied_itself nat_cmp_total f.den)
+    let cross : f.num *ℤ pos g.den ≡ g.num *ℤ pos f.den = same_from_int_cmp (f.num *ℤ pos g.den) (g.num *ℤ pos f.den) tied in
+    ap (λ h. nat_cmp f.den h.den) (sym (same_from_cross f g f_reduced g_reduced cross)) ∙ tied_itself nat_cmp_total f.den)
+
+equal_from_is_eq : (r : Ordering) → is_eq r ≡ true → r ≡ Equal
+equal_from_is_eq Less e = cc
+equal_from_is_eq Equal e = refl
+equal_from_is_eq Greater e = cc
+
+-- fractions in lowest terms have the same parts exactly where they are one number
+pub fraction_eq-number : (f g : Fraction) (same : Bool) → IsReduced f → IsReduced g → same ≡ fraction_eq f g → (same ≡ true) ↔ (f.num *ℤ pos g.den ≡ g.num *ℤ pos f.den)
+fraction_eq-number f g same f_reduced g_reduced is =
+    let order : same ≡ is_eq (ratio_cmp f.num f.den g.num g.den) = is ∙ fraction_eq-is f g ∙ ap is_eq (fraction_cmp-reduced f g f_reduced g_reduced) in (
+      λ e. same_from_int_cmp (f.num *ℤ pos g.den) (g.num *ℤ pos f.den) (equal_from_is_eq (ratio_cmp f.num f.den g.num g.den) (sym order ∙ e)),
+      λ cross. order ∙ ap is_eq (sym (int_cmp_is (f.num *ℤ pos g.den) (g.num *ℤ pos f.den) Equal cross)),
+    )
 
 -- the number with this size and sign is a `Frac`
 pub IsFrac-with_sign : (z : ℤ) (n d : ℕ) → 0 < d → AreCoprime n d → n < 2 ^ 126 → d < 2 ^ 126 → IsFrac (record { num = with_sign z n; den = d })
@@ -193,11 +206,11 @@ same_product z q u v n d q_some v_some is =
     let f : Fraction = record { num = with_sign z n; den = d } in
     let reduced : IsReduced f = (is.positive, subst (λ m. AreCoprime m d) (sym (abs-with_sign z n)) is.coprime) in
     let cross : with_sign z n *ℤ pos (q * v) ≡ (z *ℤ pos u) *ℤ pos d =
-      with_sign-mul z n (q * v)
-      ∙ ap (with_sign z) (is.number ∙ mul_assoc (unsigned_abs z) u d)
-      ∙ sym (with_sign-mul z (unsigned_abs z) (u * d))
-      ∙ ap (λ y. y *ℤ pos (u * d)) (with_sign-abs z)
-      ∙ sym (times-times z u d) in
+    with_sign-mul z n (q * v)
+    ∙ ap (with_sign z) (is.number ∙ mul_assoc (unsigned_abs z) u d)
+    ∙ sym (with_sign-mul z (unsigned_abs z) (u * d))
+    ∙ ap (λ y. y *ℤ pos (u * d)) (with_sign-abs z)
+    ∙ sym (times-times z u d) in
     lowest_terms-is f (z *ℤ pos u) (q * v) reduced (mul-pos q_some v_some) cross
 
 -- the number's lowest terms are parts of the product

@@ -1,8 +1,7 @@
 -- How two ratios of whole numbers stand to one another.
-use Rattle.std.proofs.Common.{◌≡◌, ℕ, zero, suc, ◌+◌, ◌*◌, ◌/◌, ◌%◌, ◌<◌, ◌≤◌, ◌⊎◌, inl, inr, nat_cmp, Ordering, Less, Equal, Greater, refl, sym, ap, ap₂, ◌∙◌, subst, arith, mul_comm, mul_assoc, mul_right_comm, zero-mul, mul-pos, mul-lt-mul_of_pos_right, mul-le-mul_right, div-add-mod', add-mul, eq-zero-or-pos, le_of_lt}
+use Rattle.std.proofs.Common.{◌≡◌, ℕ, zero, suc, ◌+◌, ◌*◌, ◌/◌, ◌%◌, ◌<◌, ◌≤◌, ◌⊎◌, inl, inr, nat_cmp, Less, Equal, Greater, refl, sym, ap, ap₂, ◌∙◌, arith, mul_comm, mul_right_comm, zero-mul, mul-pos, mul-lt-mul_of_pos_right, mul-le-mul_right, div-add-mod', add-mul}
 use Rattle.std.specs.Cmp.{nat_cmp_is}
 use Rattle.std.proofs.Math.Nat.{lt-div-mul-add}
-use Rattle.std.proofs.lemmas.Bool.Decides.{nat_tests}
 use Rattle.std.proofs.lemmas.Cmp.{ranked, by_ranked}
 
 -- a smaller whole part makes a smaller ratio

@@ -1,6 +1,6 @@
 -- Common divisors and multiples. `IsGcd` of std says that a number divides both of two numbers, and that
 -- each number which divides both divides it.
-use Rattle.std.specs.Prelude.{ℕ, zero, suc, ◌+◌, ◌*◌, Bool, true, false, cond}
+use Rattle.std.specs.Prelude.{ℕ, zero, suc, Bool, cond}
 use Rattle.std.specs.Int.{◌∣◌, IsGcd}
 
 -- m is the least common multiple of a and b: both divide it, and it divides each number that both divide

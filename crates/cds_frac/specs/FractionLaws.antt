@@ -1,13 +1,13 @@
 -- Laws of signs, and of the order of fractions by cross products.
-use Rattle.std.proofs.Common.{◌≡◌, ℕ, zero, suc, ◌+◌, ◌-◌, ◌*◌, ◌/◌, ◌%◌, ◌<◌, ◌≤◌, Bool, true, false, cond, ℤ, pos, negsuc, neg_ℤ, ◌*ℤ◌, ◌<ℤ◌, unsigned_abs, int_cmp, nat_cmp, nat_eq, ◌&&◌, is_eq, max, Ordering, Less, Equal, Greater, refl, sym, ap, ap₂, ◌∙◌, subst, arith, inl, inr, ◌⊎◌, mul_comm, mul_assoc, mul_right_comm, zero-mul, mul-pos, mul-lt-mul_of_pos_right}
-use Rattle.std.specs.Ordering.{MatchOrdering, as_partial_cmp, ordering_then, int_eq}
+use Rattle.std.proofs.Common.{◌≡◌, ℕ, zero, suc, ◌-◌, ◌*◌, ◌<◌, Bool, true, false, ℤ, pos, negsuc, neg_ℤ, ◌*ℤ◌, ◌<ℤ◌, unsigned_abs, int_cmp, nat_cmp, nat_eq, ◌&&◌, is_eq, max, Ordering, Less, Equal, Greater, refl, sym, ap, ap₂, ◌∙◌, arith, mul_comm, mul_assoc, zero-mul, mul-pos, mul-lt-mul_of_pos_right}
+use Rattle.std.specs.Ordering.{as_partial_cmp, ordering_then, int_eq}
 use Rattle.std.specs.Cmp.{int_cmp_is, IsTotalOrder, IsEquivalence, IsPartialOrder, partial_order_from_agreeing_total}
 use Rattle.std.proofs.Math.Nat.{eq_of_mul-eq-mul_right}
 use Rattle.std.proofs.lemmas.Bool.{eqb-true}
 use Rattle.std.proofs.lemmas.Bool.Decides.{nat_tests}
 use Rattle.std.proofs.lemmas.Int.{ints, unsigned_abs-mul}
 use Rattle.std.proofs.lemmas.Cmp.{int_ranked, by_ranked, int_cmp_total, nat_cmp_total, then_total, on_total, on_equiv, and_equiv, int_eq_equiv, nat_eq_equiv}
-use Rattle.cds_frac.specs.Fraction.{Fraction, IsReduced, with_sign}
+use Rattle.cds_frac.specs.Fraction.{Fraction, with_sign}
 use Rattle.cds_frac.specs.FractionOrder.{ratio_cmp, number_cmp, fraction_cmp, fraction_eq}
 
 pub abs-with_sign : (z : ℤ) (n : ℕ) → unsigned_abs (with_sign z n) ≡ n
@@ -104,10 +104,10 @@ counted d = omega arith
 -- fractions are in order as numbers
 pub number_cmp_total : IsTotalOrder number_cmp
 number_cmp_total = record {
-    antisymm = λ f g. int_cmp_total.antisymm (f.num *ℤ pos (max 1 g.den)) (g.num *ℤ pos (max 1 f.den));
-    trans = λ f g h. ratio_trans f.num g.num h.num (max 1 f.den) (max 1 g.den) (max 1 h.den) (counted f.den) (counted g.den) (counted h.den);
-    congr = λ f g h. ratio_congr f.num g.num h.num (max 1 f.den) (max 1 g.den) (max 1 h.den) (counted f.den) (counted g.den) (counted h.den);
-  }
+  antisymm = λ f g. int_cmp_total.antisymm (f.num *ℤ pos (max 1 g.den)) (g.num *ℤ pos (max 1 f.den));
+  trans = λ f g h. ratio_trans f.num g.num h.num (max 1 f.den) (max 1 g.den) (max 1 h.den) (counted f.den) (counted g.den) (counted h.den);
+  congr = λ f g h. ratio_congr f.num g.num h.num (max 1 f.den) (max 1 g.den) (max 1 h.den) (counted f.den) (counted g.den) (counted h.den);
+}
 
 -- the order of fractions is one
 pub fraction_cmp_total : IsTotalOrder fraction_cmp

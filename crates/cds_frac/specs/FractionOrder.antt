@@ -1,5 +1,5 @@
 -- The order of fractions as numbers, by cross products.
-use Rattle.std.specs.Prelude.{◌≡◌, ℕ, ◌*◌, max, ℤ, pos, ◌*ℤ◌, Bool, ◌&&◌, nat_eq}
+use Rattle.std.specs.Prelude.{ℕ, max, ℤ, pos, ◌*ℤ◌, Bool, ◌&&◌, nat_eq}
 use Rattle.std.specs.declared.cmp.Ordering.{Ordering}
 use Rattle.std.specs.Ordering.{int_cmp, nat_cmp, int_eq, then_cmp, on}
 use Rattle.cds_frac.specs.Fraction.{Fraction}

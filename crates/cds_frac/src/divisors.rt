@@ -28,7 +28,7 @@ pub fn lcm(a: u64, b: u64) -> Option<u64>
     requires second { 1 ≤ b }
     ensures least { IfSome result (IsLcm a b) }
     ensures below { IfSome result (λ m. m < LCM_LIMIT) }
-    ensures too_large { IfNone result ((m : ℕ) → IsLcm a b m → LCM_LIMIT ≤ m) }
+    ensures too_large { IfNone result ((m : ℕ) → 0 < m → a ∣ m → b ∣ m → LCM_LIMIT ≤ m) }
 {
     let common = gcd(u128::from(a), u128::from(b));
     let whole = u128::from(a) / common * u128::from(b);

@@ -1,18 +1,21 @@
-ghost use Rattle.std.specs.Prelude.{◌≡◌, ℕ, ◌*◌, ◌^◌, ◌<◌, ◌≤◌, pos, ◌+ℤ◌, ◌*ℤ◌, ◌≤ℤ◌, ◌<ℤ◌, unsigned_abs, IfSome, IfNone};
+ghost use Rattle.std.specs.Prelude.{◌≡◌, ℕ, ◌*◌, ◌^◌, ◌<◌, ◌≤◌, pos, ◌+ℤ◌, ◌*ℤ◌, ◌≤ℤ◌, ◌<ℤ◌, unsigned_abs, IsTrue, ◌↔◌, IfSome, IfNone, IfOk};
 ghost use Rattle.std.specs.Option.{SomeIff};
 ghost use Rattle.std.specs.Ordering.{int_cmp, as_partial_cmp};
 ghost use Rattle.cds_frac.specs.Divisors.{AreCoprime};
 ghost use Rattle.cds_frac.specs.Fraction.{Fraction, IsFrac, IsInRange, lowest_terms, floor_of, with_sign, IsProduct};
+ghost use Rattle.cds_frac.specs.Decimals.{decimal_text};
 ghost use Rattle.cds_frac.specs.FractionOrder.{ratio_cmp, fraction_cmp, fraction_eq};
 ghost use Rattle.cds_frac.specs.FractionLaws.{fraction_cmp_total, fraction_eq-is, fraction_eq_equiv, fraction_partial_order};
 ghost use Rattle.std.specs.Cmp.{partial_equiv_from_equiv};
 ghost use Rattle.std.proofs.Common.{refl};
 
+use crate::compare::compare_ratios;
+use crate::decimals::{MOST_DECIMALS, push_fraction, sign_before};
+use crate::divisors::gcd;
+use cds_base::{NoMemory, Text};
+use std::alloc::Global;
 use std::cmp::Ordering;
 use std::marker::Model;
-
-use crate::compare::compare_ratios;
-use crate::divisors::gcd;
 
 /// Both parts of a `Frac` stay below this number in absolute value, 2^126.
 pub const PART_LIMIT: u128 = 1 << 126;
@@ -48,34 +51,6 @@ impl Frac {
         let (size, whole) = (num.unsigned_abs(), den.unsigned_abs());
         let common = gcd(size, whole);
         Frac::from_parts(num, size / common, whole / common)
-    }
-
-    // How the number stands to another, by the signs and then by the sizes.
-    fn compare_number(&self, other: &Frac) -> Ordering
-        ensures cross_products { result ≡ ratio_cmp self.now.num self.now.den other.now.num other.now.den }
-        ensures shape { IsFrac self.now × IsFrac other.now }
-    {
-        let (size, other_size) = (self.num.unsigned_abs(), other.num.unsigned_abs());
-        match (self.num < 0, other.num < 0) {
-            (false, true) => Ordering::Greater,
-            (true, false) => Ordering::Less,
-            (false, false) => compare_ratios(size, self.den, other_size, other.den),
-            (true, true) => compare_ratios(other_size, other.den, size, self.den),
-        }
-    }
-
-    // The number `size / den` with the sign of `sign`, where the two parts are in lowest terms.
-    fn from_parts(sign: i128, size: u128, den: u128) -> Frac
-        requires positive { 0 < den }
-        requires coprime { AreCoprime size den }
-        requires size_in_range { size < PART_LIMIT }
-        requires den_in_range { den < PART_LIMIT }
-        ensures { result ≡ record { num = with_sign sign size; den = den } }
-    {
-        Frac {
-            num: with_sign_of(sign, size),
-            den,
-        }
     }
 
     /// The numerator of the number in lowest terms. It has the sign of the number.
@@ -116,6 +91,57 @@ impl Frac {
     {
         self.num.div_euclid(self.den as i128)
     }
+
+    /// The number as a decimal number with `k` decimals, at most `MOST_DECIMALS`: `-` where it is below 0, the
+    /// whole part, and for `k > 0` a point and the decimals. It is cut towards 0 and never rounded, and a number
+    /// below 0 keeps its sign also where it shows as zero, as `-0.00`. Err only for want of memory.
+    pub fn digits(&self, alloc: Global, k: u32) -> Result<Text, NoMemory>
+        requires { k ≤ MOST_DECIMALS }
+        ensures { IfOk result (λ text. text ≡ decimal_text self.now k) }
+    {
+        let size = self.num.unsigned_abs();
+        let sign = sign_before(self.num);
+        let whole = size / self.den;
+        let mut text = format!(in alloc; "{sign}{whole}")?;
+        push_fraction(&mut text, size % self.den, self.den, k)?;
+        Ok(Text::from_string(text))
+    }
+
+    // Whether the two have the same numerator and the same denominator.
+    fn has_parts_of(&self, other: &Frac) -> bool
+        ensures parts { result ≡ fraction_eq self.now other.now }
+        ensures shape { IsFrac self.now × IsFrac other.now }
+    {
+        self.num == other.num && self.den == other.den
+    }
+
+    // How the number stands to another, by the signs and then by the sizes.
+    fn compare_number(&self, other: &Frac) -> Ordering
+        ensures cross_products { result ≡ ratio_cmp self.now.num self.now.den other.now.num other.now.den }
+        ensures shape { IsFrac self.now × IsFrac other.now }
+    {
+        let (size, other_size) = (self.num.unsigned_abs(), other.num.unsigned_abs());
+        match (self.num < 0, other.num < 0) {
+            (false, true) => Ordering::Greater,
+            (true, false) => Ordering::Less,
+            (false, false) => compare_ratios(size, self.den, other_size, other.den),
+            (true, true) => compare_ratios(other_size, other.den, size, self.den),
+        }
+    }
+
+    // The number `size / den` with the sign of `sign`, where the two parts are in lowest terms.
+    fn from_parts(sign: i128, size: u128, den: u128) -> Frac
+        requires positive { 0 < den }
+        requires coprime { AreCoprime size den }
+        requires size_in_range { size < PART_LIMIT }
+        requires den_in_range { den < PART_LIMIT }
+        ensures { result ≡ record { num = with_sign sign size; den = den } }
+    {
+        Frac {
+            num: with_sign_of(sign, size),
+            den,
+        }
+    }
 }
 
 impl PartialEq for Frac {
@@ -124,8 +150,11 @@ impl PartialEq for Frac {
     ghost laws = { partial_equiv_from_equiv fraction_eq_equiv };
 
     /// Whether the two are one number.
-    fn eq(&self, other: &Frac) -> bool {
-        self.num == other.num && self.den == other.den
+    fn eq(&self, other: &Frac) -> bool
+        ensures parts { result ≡ fraction_eq self.now other.now }
+        ensures one_number { IsTrue result ↔ ((self.now.num *ℤ pos other.now.den) ≡ (other.now.num *ℤ pos self.now.den)) }
+    {
+        self.has_parts_of(other)
     }
 }
 

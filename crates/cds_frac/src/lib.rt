@@ -4,8 +4,12 @@
 #![tactic(auto)]
 
 mod compare;
+mod decimals;
 mod divisors;
 mod fraction;
+#[cfg(test)]
+mod tests;
 
+pub use decimals::MOST_DECIMALS;
 pub use divisors::{LCM_LIMIT, gcd, lcm};
 pub use fraction::{Frac, PART_LIMIT};

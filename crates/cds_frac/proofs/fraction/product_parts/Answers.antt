@@ -1,6 +1,5 @@
-use Rattle.std.proofs.Common.{◌<◌, ◌/◌, ◌*◌, ◌^◌, arith, sym, subst, subst₂}
+use Rattle.std.proofs.Common.{◌<◌, ◌/◌, ◌^◌, arith, sym, subst, subst₂}
 use Rattle.cds_frac.specs.Fraction.{IsProduct}
-use Rattle.cds_frac.proofs.Coprime.{gcd_pos}
 use Rattle.cds_frac.proofs.LowestTerms.{IsProduct-cancelled, same_parts, quotient_pos}
 use Rattle.cds_frac.proofs.fraction.product_parts.Goals as goal
 

@@ -1,8 +1,7 @@
-use Rattle.std.proofs.Common.{◌≡◌, ap, ap₂, sym, subst, subst₂, ◌∙◌, rules, unsigned_abs, SFits}
+use Rattle.std.proofs.Common.{◌≡◌, ap, sym, subst, ◌∙◌, rules, unsigned_abs, SFits}
 use Rattle.std.specs.Int.{w128}
 use Rattle.std.proofs.lemmas.Int.{to_z-of_z}
 use Rattle.cds_frac.specs.Divisors.{AreCoprime}
-use Rattle.cds_frac.specs.Fraction.{IsFrac, IsProduct}
 use Rattle.cds_frac.proofs.LowestTerms.{times_in_range, times_past_range}
 use Rattle.cds_frac.proofs.fraction.Frac.times.Goals as goal
 

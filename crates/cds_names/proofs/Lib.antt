@@ -1,0 +1,4 @@
+pub mod OneNaming
+pub mod Listing
+pub mod Wants
+pub mod GivingSteps
