@@ -1,9 +1,8 @@
 -- The search for the greatest number that a deviation reaches, and what holds of values that have one.
-use Rattle.std.proofs.Common.{◌≡◌, ℕ, zero, suc, ◌+◌, ◌-◌, ◌*◌, ◌<◌, ◌≤◌, Bool, true, false, cond, leb, ltb, List, length, Result, Ok, Err, refl, sym, ap, ◌∙◌, subst, arith, inl, inr}
+use Rattle.std.proofs.Common.{◌≡◌, ℕ, zero, suc, ◌+◌, ◌-◌, ◌*◌, ◌<◌, ◌≤◌, Bool, true, false, cond, ltb, List, length, Ok, Err, sym, ap, ◌∙◌, subst, arith, inl, inr}
 use Rattle.std.specs.List.{sum}
 use Rattle.std.proofs.Math.Nat.{mul-le-mul}
 use Rattle.std.proofs.lemmas.Bool.{cases_lt, le-leb, lt-leb}
-use Rattle.cds_base.specs.declared.peak.Missing.{Missing}
 use Rattle.cds_base.specs.declared.peak.Missing.TheVariants.{TooFew, ZeroSum}
 use Rattle.cds_suit.specs.declared.square.Square.{Square}
 use Rattle.cds_suit.specs.Deviation.{if_deviates, greatest}

@@ -7,7 +7,7 @@ use Rattle.std.proofs.lemmas.Bool.{cases_lt}
 use Rattle.std.proofs.lemmas.List.Sums.{sum_by-cons, sum_by-le}
 use Rattle.std.proofs.lemmas.List.Elements.{All-weaker}
 use Rattle.cds_suit.specs.declared.square.Square.{Square}
-use Rattle.cds_suit.specs.Deviation.{sum_of_squares, spread, level}
+use Rattle.cds_suit.specs.Deviation.{sum_of_squares}
 use Rattle.cds_suit.specs.Square.{square_of, IsSquare}
 
 -- at most 64 values, each below 2^52

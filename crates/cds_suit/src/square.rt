@@ -88,7 +88,7 @@ impl Square {
         low
     }
 
-    /// How the deviation stands to `q` hundredths of a percent. The two products have up to 180 bits, so they are not
+    /// How the deviation stands to `q` hundredths of a percent. The two products have up to 186 bits, so they are not
     /// formed: spread / level stands to q^2 / 10^8 as they do.
     fn compared_with(&self, q: u32) -> Ordering
         requires { IsSquare self.now }
