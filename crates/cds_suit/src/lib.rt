@@ -8,6 +8,8 @@
 mod checks;
 mod deviation;
 mod square;
+#[cfg(test)]
+mod tests;
 mod verdict;
 
 pub use checks::check;
