@@ -1,0 +1,77 @@
+-- The search for the greatest number that a deviation reaches, and what holds of values that have one.
+use Rattle.std.proofs.Common.{◌≡◌, ℕ, zero, suc, ◌+◌, ◌-◌, ◌*◌, ◌<◌, ◌≤◌, Bool, true, false, cond, ltb, List, length, Ok, Err, sym, ap, ◌∙◌, subst, arith, inl, inr}
+use Rattle.std.specs.List.{sum}
+use Rattle.std.proofs.Math.Nat.{mul-le-mul}
+use Rattle.std.proofs.lemmas.Bool.{cases_lt, le-leb, lt-leb}
+use Rattle.cds_base.specs.declared.peak.Missing.TheVariants.{TooFew, ZeroSum}
+use Rattle.cds_suit.specs.declared.square.Square.{Square}
+use Rattle.cds_suit.specs.Deviation.{if_deviates, greatest}
+use Rattle.cds_suit.specs.Square.{reaches, IsSquare}
+
+-- low is reached, and nothing from above on
+pub record Between (s : Square) (low above : ℕ) : Type 0 where
+  pub ordered : low < above
+  pub top : above ≤ 80001
+  pub reached : low * low * s.level ≤ s.spread * 100000000
+  pub missed : s.spread * 100000000 < above * above * s.level
+
+pub Between-start : (s : Square) → IsSquare s → Between s 0 80001
+Between-start s is =
+    let some = is.some in
+    let small = is.small in
+    record { ordered = omega arith; top = omega arith; reached = omega arith; missed = omega arith }
+
+-- what is past a number is past all beyond
+beyond : (s : Square) (low k : ℕ) → s.spread * 100000000 < (low + 1) * (low + 1) * s.level → low < k → s.spread * 100000000 < k * k * s.level
+beyond s low k missed lt =
+    let square : (low + 1) * (low + 1) ≤ k * k = mul-le-mul {n₁ = low + 1} {m₁ = low + 1} {n₂ = k} {m₂ = k} (omega arith) (omega arith) in
+    let more : ((low + 1) * (low + 1)) * s.level ≤ (k * k) * s.level = mul-le-mul {n₁ = (low + 1) * (low + 1)} {m₁ = s.level} {n₂ = k * k} {m₂ = s.level} square (omega arith) in
+    omega arith
+
+-- nothing beyond the last one is reached
+missed_next : (s : Square) (low above : ℕ) → Between s low above → above - low ≤ 1 → s.spread * 100000000 < (low + 1) * (low + 1) * s.level
+missed_next s low above is near =
+    let next : above ≡ low + 1 = let o = is.ordered in omega arith in
+    subst (λ a. s.spread * 100000000 < a * a * s.level) next is.missed
+
+pub last-end : (s : Square) (low above : ℕ) → Between s low above → above - low ≤ 1 → (k : ℕ) → k * k * s.level ≤ s.spread * 100000000 → k ≤ low
+last-end s low above is near k here =
+    elim (cases_lt low k) [ inl lt ↦ absurd (let past = beyond s low k (missed_next s low above is near) lt in omega arith) | inr ge ↦ ge ]
+
+-- the greatest number that passes is the one above which none does
+greatest-is : (test : ℕ → Bool) (n low : ℕ) → low ≤ n → test low ≡ true → ((k : ℕ) → low < k → k ≤ n → test k ≡ false) → greatest test n ≡ low
+unfolding greatest
+greatest-is test zero low le here above = omega arith
+greatest-is test (suc n) low le here above =
+    elim (cases_lt low (suc n)) [
+      | inl lt ↦ ap (λ b. cond b (suc n) (greatest test n)) (above (suc n) lt (omega arith)) ∙ greatest-is test n low (omega arith) here (λ k p q. above k p (omega arith))
+      | inr ge ↦
+          let same : low ≡ suc n = omega arith in
+          ap (λ b. cond b (suc n) (greatest test n)) (subst (λ k. test k ≡ true) same here) ∙ sym same
+    ]
+
+pub greatest-end : (s : Square) (low above : ℕ) → Between s low above → above - low ≤ 1 → low ≡ greatest (reaches s) 80000
+greatest-end s low above is near =
+    let within : low ≤ 80000 = let o = is.ordered in let t = is.top in omega arith in
+    sym (greatest-is (reaches s) 80000 low within (le-leb (low * low * s.level) (s.spread * 100000000) is.reached)
+    (λ k lt le. lt-leb (k * k * s.level) (s.spread * 100000000) (beyond s low k (missed_next s low above is near) lt)))
+
+-- ---- values that have a deviation
+
+-- what is computed of such values stands where they do
+pub if_deviates-map : {A B : Type 0} (f : A → B) (values : List ℕ) (a s : A) → Ok s ≡ if_deviates values a → Ok (f s) ≡ if_deviates values (f a)
+if_deviates-map {A} {B} f values a s is = go (ltb (length values) 2) (ltb 0 (sum values)) is
+  where
+    go : (few some : Bool) → Ok s ≡ cond few (Err TooFew) (cond some (Ok a) (Err ZeroSum)) → Ok (f s) ≡ cond few (Err TooFew) (cond some (Ok (f a)) (Err ZeroSum))
+    go true some e = cc
+    go false true e = cc
+    go false false e = cc
+
+-- where they have one, it is what was computed
+pub if_deviates-ok : {A : Type 0} (values : List ℕ) (a s : A) → Ok s ≡ if_deviates values a → s ≡ a
+if_deviates-ok {A} values a s is = go (ltb (length values) 2) (ltb 0 (sum values)) is
+  where
+    go : (few some : Bool) → Ok s ≡ cond few (Err TooFew) (cond some (Ok a) (Err ZeroSum)) → s ≡ a
+    go true some e = cc
+    go false true e = cc
+    go false false e = cc

@@ -1,0 +1,4 @@
+pub mod Verdict
+pub mod Check
+pub mod Deviation
+pub mod Square
