@@ -1,16 +1,13 @@
 -- The chain of vertices over which a baseline is stretched: what it keeps as points are added, and that it is the list
 -- of nodes once all are. Points are numbered; x is the sample of a point, y its level, f whether it is fixed.
-use Rattle.std.proofs.Common.{◌≡◌, ◌∙◌, ℕ, zero, suc, ◌+◌, ◌-◌, ◌*◌, ◌<◌, ◌≤◌, ℤ, pos, ◌+ℤ◌, ◌-ℤ◌, ◌*ℤ◌, ◌≤ℤ◌, ◌<ℤ◌, Bool, true, false, ◌⊎◌, inl, inr, ap, sym, arith, refl}
-use Rattle.std.specs.Prelude.{int_lt, nat_le, nat_lt, not, ◌&&◌, ◌||◌, List, length, get_or, map, take, [], ◌∷◌, ◌++◌}
+use Rattle.std.proofs.Common.{◌≡◌, ◌∙◌, ℕ, zero, suc, ◌+◌, ◌-◌, ◌*◌, ◌<◌, ◌≤◌, ℤ, pos, ◌+ℤ◌, ◌-ℤ◌, ◌*ℤ◌, ◌≤ℤ◌, ◌<ℤ◌, Bool, true, false, ◌⊎◌, inl, inr, sym, arith, refl}
+use Rattle.std.specs.Prelude.{nat_le, not, ◌&&◌, List, length, take, [], ◌∷◌, ◌++◌}
 use Rattle.std.proofs.lemmas.Int.{ints}
-use Rattle.std.proofs.lemmas.Bool.{both_ways, cases_lt, cases_eq, cases_order, and_parts, and_cases, not-true, not-false, leb-true, leb-false}
+use Rattle.std.proofs.lemmas.Bool.{both_ways, cases_eq, cases_order, and_parts, and_cases, not-true, not-false, leb-true, leb-false}
 use Rattle.std.proofs.lemmas.List.{length-take, length-append, get_or_at, get_or_append_left, get_or-take}
 use Rattle.std.proofs.Math.Nat.{mul-le-mul_right, mul-lt-mul_of_pos_right, lt_of_mul-lt-mul_right}
 use borrow.Author.Differences.{up, down, true_is_lt, false_is_lt, lt-true, lt-false}
-use Rattle.cds_baseline.specs.Chain.{under_of, IsRising, IsHidden, IsChain, IsReached, is_top_hidden, IsPoints, vertex, level_of}
-use Rattle.cds_baseline.specs.Nodes.{sample_of, is_fixed}
-use Rattle.cds_baseline.specs.Numbers.{each_below, passing}
-use Rattle.cds_baseline.proofs.NumberLaws.{each_below-from, each_below-at, each_below-fails}
+use Rattle.cds_baseline.specs.Chain.{under_of, IsRising, IsHidden, IsChain, IsReached, is_top_hidden, vertex}
 use Rattle.cds_baseline.proofs.SlopeLaws.{slope-trans, sub-mul}
 
 -- the slope from a to b is at most the one from c to d

@@ -1,11 +1,11 @@
 -- The vertices of a whole chain are the nodes, each of them and no other point.
-use Rattle.std.proofs.Common.{◌≡◌, ◌∙◌, ℕ, zero, suc, ◌+◌, ◌-◌, ◌<◌, ◌≤◌, ℤ, pos, Bool, true, false, ◌⊎◌, inl, inr, List, [], ◌∷◌, ◌++◌, length, get_or, map, take, ap, sym, arith, refl}
-use Rattle.std.specs.Prelude.{nat_lt, not, ◌&&◌, ◌||◌, if◌then◌else◌}
+use Rattle.std.proofs.Common.{◌≡◌, ◌∙◌, ℕ, zero, suc, ◌+◌, ◌-◌, ◌<◌, ◌≤◌, ℤ, pos, Bool, true, false, inl, inr, List, [], ◌∷◌, ◌++◌, length, get_or, map, take, ap, sym, arith, refl}
+use Rattle.std.specs.Prelude.{nat_lt, not, ◌&&◌, ◌||◌}
 use Rattle.std.proofs.lemmas.Bool.{both_ways, cases_lt, cases_eq, cases_Bool, and_parts, and_from, and_left, and_right, lt-ltb, le-ltb, ltb-true}
 use Rattle.std.proofs.lemmas.List.{take_all, take_more, get_or_default, get_or-map}
 use Rattle.cds_trace.specs.Signal.{Signal, sample_at}
 use Rattle.cds_baseline.specs.Nodes.{sample_of, is_fixed, node_samples}
-use Rattle.cds_baseline.specs.Chain.{under_of, IsRising, IsHidden, IsChain, vertex, level_of}
+use Rattle.cds_baseline.specs.Chain.{under_of, IsRising, IsChain, vertex, level_of}
 use Rattle.cds_baseline.specs.Numbers.{each_below, passing}
 use Rattle.cds_baseline.proofs.NumberLaws.{each_below-from, each_below-at, each_below-fails}
 use Rattle.cds_baseline.proofs.HullLaws.{vertex-above, chain-order}

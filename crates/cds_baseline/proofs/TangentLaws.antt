@@ -1,12 +1,11 @@
 -- The search for the tangent sample: it is the last sample of the least slope.
-use Rattle.std.proofs.Common.{◌≡◌, ◌∙◌, ℕ, ◌+◌, ◌-◌, ◌*◌, ◌<◌, ◌≤◌, ℤ, pos, ◌-ℤ◌, ◌*ℤ◌, ◌≤ℤ◌, ◌<ℤ◌, Bool, true, false, ◌⊎◌, inl, inr, ap, arith, refl}
+use Rattle.std.proofs.Common.{◌≡◌, ℕ, ◌+◌, ◌-◌, ◌<◌, ◌≤◌, ℤ, pos, ◌-ℤ◌, ◌*ℤ◌, ◌≤ℤ◌, ◌<ℤ◌, true, false, inl, inr, arith, refl}
 use Rattle.std.specs.Prelude.{int_le}
 use Rattle.std.proofs.lemmas.Int.{ints}
 use Rattle.std.proofs.lemmas.Bool.{cases_lt, cases_eq}
 use borrow.Author.Differences.{le-true, le-false}
 use Rattle.cds_trace.specs.Signal.{Signal, sample_at}
 use Rattle.cds_baseline.specs.declared.slopes.Slope.{Slope}
-use Rattle.cds_baseline.specs.Numbers.{each_below, greatest}
 use Rattle.cds_baseline.specs.Chord.{is_over}
 use Rattle.cds_baseline.specs.Tangent.{is_clear, tangent_sample}
 use Rattle.cds_baseline.proofs.NumberLaws.{each_below-from, each_below-fails, greatest-yes, greatest-no}

@@ -1,6 +1,6 @@
 -- The nodes of a baseline: among the points of a cluster, which are its ends and its valleys, those at which the line
 -- bends or is fixed.
-use Rattle.std.specs.Prelude.{ℕ, Bool, true, false, ◌&&◌, ◌||◌, not, List, map, length, get_or, nat_lt}
+use Rattle.std.specs.Prelude.{ℕ, Bool, false, ◌&&◌, ◌||◌, not, List, map, length, get_or, nat_lt}
 use Rattle.cds_trace.specs.Signal.{Signal}
 use Rattle.cds_baseline.specs.Numbers.{each_below, passing}
 use Rattle.cds_baseline.specs.Chord.{is_under}

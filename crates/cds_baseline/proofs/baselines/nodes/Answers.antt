@@ -1,7 +1,6 @@
-use Rattle.std.proofs.Common.{◌≡◌, ◌∙◌, ◌+◌, ◌≤◌, Bool, List, [], ◌∷◌, ◌++◌, true, length, sym, arith, refl}
-use Rattle.std.specs.Prelude.{if◌then◌else◌}
+use Rattle.std.proofs.Common.{◌≡◌, ◌∙◌, ◌+◌, ◌≤◌, [], ◌∷◌, ◌++◌, true, length, arith, refl}
 use Rattle.cds_baseline.specs.Cluster.{valleys, marks, inner}
-use Rattle.cds_baseline.proofs.PointLaws.{IsReady, inner-slice, cluster-ready}
+use Rattle.cds_baseline.proofs.PointLaws.{inner-slice, cluster-ready}
 use Rattle.cds_baseline.proofs.baselines.nodes.Goals as goal
 
 pub hull-requires : goal.hull-requires

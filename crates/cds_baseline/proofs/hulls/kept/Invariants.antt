@@ -1,6 +1,6 @@
-use Rattle.std.proofs.Common.{◌<◌, ◌≤◌, length}
+use Rattle.std.proofs.Common.{length}
 use Rattle.cds_baseline.specs.Nodes.{sample_of, is_fixed}
-use Rattle.cds_baseline.specs.Chain.{level_of, vertex, IsReached}
+use Rattle.cds_baseline.specs.Chain.{level_of, vertex}
 use Rattle.cds_baseline.proofs.HullLaws.{IsKeeping}
 use Rattle.cds_baseline.proofs.hulls.kept.Given as goal
 

@@ -1,5 +1,5 @@
-use Rattle.std.proofs.Common.{◌≡◌, ◌∙◌, ◌∷◌, true, false, sym}
-use Rattle.cds_baseline.specs.Cluster.{is_valley, marks}
+use Rattle.std.proofs.Common.{◌∙◌, ◌∷◌, true, sym}
+use Rattle.cds_baseline.specs.Cluster.{marks}
 use Rattle.cds_baseline.proofs.PointLaws.{marks-valley, marks-other}
 use Rattle.cds_baseline.proofs.points.point_marks.Goals as goal
 use Rattle.cds_baseline.proofs.points.point_marks.Goals.{then-is_valley+in_ok-push-2, else-is_valley}

@@ -1,4 +1,4 @@
-use Rattle.std.proofs.Common.{◌≡◌, ◌+◌, ◌-◌, ◌≤◌, ◌∙◌, sym, arith}
+use Rattle.std.proofs.Common.{◌≡◌, ◌+◌, ◌-◌, ◌∙◌, sym, arith}
 use Rattle.cds_baseline.proofs.TangentLaws.{least-start, least-takes, least-keeps, least-clear}
 use Rattle.cds_baseline.proofs.tangents.tangent.Goals as goal
 use Rattle.cds_baseline.proofs.tangents.tangent.Goals.{then-is_at_most, else-is_at_most}
