@@ -1,4 +1,4 @@
-ghost use Rattle.std.specs.Prelude.{◌≤◌, None, IfOk, length};
+ghost use Rattle.std.specs.Prelude.{◌≡◌, ◌-◌, ◌^◌, ◌≤◌, None, IfOk, length};
 
 use cds_base::{Failed, Sink, Source};
 use std::io::{ErrorKind, Read, Write};
@@ -14,7 +14,10 @@ pub struct ReaderSource<R> {
 
 impl<R: Read + Drop> ReaderSource<R> {
     /// A source over this reader, which has not failed yet.
-    pub fn new(reader: R) -> ReaderSource<R> {
+    pub fn new(reader: R) -> ReaderSource<R>
+        ensures bound { result.bound ≡ 2 ^ 64 - 1 }
+        ensures faults { result.faults ≡ 0 }
+    {
         ReaderSource {
             reader,
             bound: u64::MAX,
@@ -70,7 +73,9 @@ pub struct WriterSink<W> {
 
 impl<W: Write + Drop> WriterSink<W> {
     /// A sink over this writer, which has not failed yet.
-    pub fn new(writer: W) -> WriterSink<W> {
+    pub fn new(writer: W) -> WriterSink<W>
+        ensures { result.faults ≡ 0 }
+    {
         WriterSink { writer, faults: 0 }
     }
 }

@@ -8,8 +8,6 @@ use Rattle.cds_detect.specs.Classes.{Settings}
 use Rattle.cds_detect.specs.Raw.{raw_peaks_of, answer_of}
 use Rattle.cds_report.specs.PeaksText.{peaks_text}
 use Rattle.cds_desk.specs.declared.answer.Answer.{Answer}
-use Rattle.cds_desk.specs.declared.answer.TheConstants.{REFUSED, DONE, TOO_MANY_BYTES}
-use Rattle.cds_desk.specs.declared.receiving.TheConstants.{MOST_SOURCE_BYTES}
 use Rattle.cds_desk.specs.declared.words.PeaksOptions.{PeaksOptions}
 
 -- by what peaks are found with these options: no timed event changes anything
@@ -26,16 +24,16 @@ abbrev pub refusal_line : ℕ → Option ℕ → List ℕ
 refusal_line number None = codes "refused " ++ decimal number ++ codes "\n"
 refusal_line number (Some at) = codes "refused " ++ decimal number ++ codes " record " ++ decimal at ++ codes "\n"
 
--- a refusal of this number
+-- a refusal of this number, with status 1
 abbrev pub refusal : ℕ → Option ℕ → Answer
-refusal number at = record { status = REFUSED; text = refusal_line number at }
+refusal number at = record { status = 1; text = refusal_line number at }
 
--- the answer to a trace that is stated, or to what is wrong with it; want of memory, which no bytes state, has the number 0
+-- the answer to a trace that is stated, with status 0, or to what is wrong with it; want of memory, which no bytes state, has the number 0
 abbrev pub answer_to_trace : PeaksOptions → Result Signal TraceError → Answer
-answer_to_trace options (Ok signal) = record { status = DONE; text = peaks_text (answer_of (raw_peaks_of signal (settings_of_options options))) }
+answer_to_trace options (Ok signal) = record { status = 0; text = peaks_text (answer_of (raw_peaks_of signal (settings_of_options options))) }
 answer_to_trace options (Err error) = refusal (unwrap_or (number_of_refusal error) 0) (record_of_refusal error)
 
--- the answer to these bytes: too many are refused, whatever they are
+-- the answer to these bytes: more than 4,194,304 are refused with number 9, whatever they are
 abbrev pub peaks_answer : PeaksOptions → List ℕ → Answer
 peaks_answer options bytes =
-    if nat_lt MOST_SOURCE_BYTES (length bytes) then refusal TOO_MANY_BYTES None else answer_to_trace options (csv_trace bytes)
+    if nat_lt 4194304 (length bytes) then refusal 9 None else answer_to_trace options (csv_trace bytes)

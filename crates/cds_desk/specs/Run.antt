@@ -1,5 +1,5 @@
 -- What the top call does with the devices that it is given.
-use Rattle.std.specs.Prelude.{◌≡◌, ◌⊎◌, ℕ, ◌==◌, List, [], ◌∷◌, Option, IfSome, IsTrue}
+use Rattle.std.specs.Prelude.{◌≡◌, ◌⊎◌, ℕ, ◌==◌, List, [], ◌∷◌, Option, IfSome, IsTrue, codes}
 use Rattle.std.specs.List.{list_any}
 use Rattle.cds_base.specs.Faults.{Rose}
 use Rattle.cds_base.specs.Told.{then_more}
@@ -20,6 +20,10 @@ OfBytes options bytes P = IfSome bytes (λ b. P (peaks_answer options b))
 -- the same with the options that the words state, where they state some
 abbrev pub OfAnswer : List (List ℕ) → Option (List ℕ) → (Answer → Type 0) → Type 0
 OfAnswer words bytes P = IfSome (options_of words) (λ options. OfBytes options bytes P)
+
+-- what is written where the words are no command
+abbrev pub usage_line : List ℕ
+usage_line = codes "usage: cds peaks|session|serve|demo\n"
 
 -- 0 done, 1 refused, 2 no command, 3 the source failed, 4 the sink failed, 6 no memory
 abbrev pub IsStatus : ℕ → Type 0

@@ -23,15 +23,16 @@ fn counted<S: Source, W: Sink, L: Ledger>(
     run(alloc, words, source, sink, &mut steps)
 }
 
-// The status and what the sink holds, where the calls of these numbers fail.
+// The status and what the sink holds, where a read gives at most a piece and the calls of these numbers fail.
 fn outcome(
     alloc: Global,
     words: &[String],
     bytes: &[u8],
+    piece: usize,
     failing_reads: &[u64],
     failing_writes: &[u64],
 ) -> Result<(u8, Vec<u8>), Fail> {
-    let mut source = MemSource::new(alloc, bytes, 7, failing_reads)?;
+    let mut source = MemSource::new(alloc, bytes, piece.max(1), failing_reads)?;
     let mut sink = MemSink::new(alloc, 9, failing_writes)?;
     let status = counted::<MemSource, MemSink, Brand>(
         Blank::new(1),
@@ -89,7 +90,7 @@ fn traces_have_these_raw_peaks(rt: HostRuntime) -> Result<(), Fail> {
     let words = words_of(rt.alloc(), PEAKS)?;
     for (samples, lines) in rows {
         let trace = trace_of(rt.alloc(), samples)?;
-        let (status, text) = outcome(rt.alloc(), &words, trace.as_bytes(), &[], &[])?;
+        let (status, text) = outcome(rt.alloc(), &words, trace.as_bytes(), 7, &[], &[])?;
         let table = format!(in rt.alloc(); "peak,start,apex,end\n{lines}")?;
         assert_eq!(rt; status, 0);
         assert_eq!(rt; text.as_slice(), table.as_bytes());
@@ -116,7 +117,7 @@ fn refusals_name_their_number_and_record(rt: HostRuntime) -> Result<(), Fail> {
     ];
     let words = words_of(rt.alloc(), PEAKS)?;
     for (bytes, line) in rows {
-        let (status, text) = outcome(rt.alloc(), &words, bytes, &[], &[])?;
+        let (status, text) = outcome(rt.alloc(), &words, bytes, 7, &[], &[])?;
         assert_eq!(rt; text.as_slice(), line);
         assert_eq!(rt; status, if line.starts_with(b"refused") { 1 } else { 0 });
     }
@@ -131,12 +132,13 @@ fn more_than_500_raw_peaks_are_counted(rt: HostRuntime) -> Result<(), Fail> {
         samples.extend_from_slice(&[0, 0, 0, 10, 40, 60, 40, 10, 0, 0, 0])?;
     }
     let trace = trace_of(rt.alloc(), &samples)?;
-    let (status, text) = outcome(rt.alloc(), &words, trace.as_bytes(), &[], &[])?;
+    let (status, text) = outcome(rt.alloc(), &words, trace.as_bytes(), 7, &[], &[])?;
     assert_eq!(rt; status, 0);
     assert!(rt; text.as_slice().ends_with(b"\n500,5490,5494,5497\n"));
     samples.extend_from_slice(&[0, 0, 0, 10, 40, 60, 40, 10, 0, 0, 0])?;
     let longer = trace_of(rt.alloc(), &samples)?;
-    let (_, text) = outcome(rt.alloc(), &words, longer.as_bytes(), &[], &[])?;
+    let (status, text) = outcome(rt.alloc(), &words, longer.as_bytes(), 7, &[], &[])?;
+    assert_eq!(rt; status, 0);
     assert_eq!(rt; text.as_slice(), b"too many 501\n".as_slice());
     Ok(())
 }
@@ -147,20 +149,75 @@ fn devices_that_fail_end_the_command(rt: HostRuntime) -> Result<(), Fail> {
     let none = words_of(rt.alloc(), "peaks --bunch 65 --on 5 --off 5 --plateau 3")?;
     let trace = trace_of(rt.alloc(), &[0, 0, 0, 10, 40, 60, 40, 10, 0, 0, 0])?;
     let bytes = trace.as_bytes();
-    let unread = outcome(rt.alloc(), &words, bytes, &[3], &[])?;
+    let unread = outcome(rt.alloc(), &words, bytes, 7, &[3], &[])?;
     assert_eq!(rt; unread.0, 3);
     assert!(rt; unread.1.is_empty());
-    let unwritten = outcome(rt.alloc(), &words, bytes, &[], &[2])?;
+    let unwritten = outcome(rt.alloc(), &words, bytes, 7, &[], &[2])?;
     assert_eq!(rt; unwritten.0, 4);
     assert_eq!(rt; unwritten.1.as_slice(), b"peak,star".as_slice());
-    let refused = outcome(rt.alloc(), &words, b"", &[], &[2])?;
+    let refused = outcome(rt.alloc(), &words, b"", 7, &[], &[2])?;
     assert_eq!(rt; refused.0, 1);
     assert_eq!(rt; refused.1.as_slice(), b"refused 2".as_slice());
-    let no_command = outcome(rt.alloc(), &none, bytes, &[1], &[])?;
+    let no_command = outcome(rt.alloc(), &none, bytes, 7, &[1], &[])?;
     assert_eq!(rt; no_command.0, 2);
     assert_eq!(rt;
         no_command.1.as_slice(),
         b"usage: cds peaks|session|serve|demo\n".as_slice()
     );
+    Ok(())
+}
+
+fn spaces(alloc: Global, count: usize) -> Result<Vec<u8>, Fail> {
+    Ok(vec![in alloc; b' '; count]?)
+}
+
+#[test]
+fn a_source_has_at_most_4_194_304_bytes(rt: HostRuntime) -> Result<(), Fail> {
+    let words = words_of(rt.alloc(), PEAKS)?;
+    let most = spaces(rt.alloc(), 4_194_304)?;
+    let (_, text) = outcome(rt.alloc(), &words, &most, 65_536, &[], &[])?;
+    assert_eq!(rt; text.as_slice(), b"refused 2\n".as_slice());
+    let more = spaces(rt.alloc(), 4_194_305)?;
+    let (status, text) = outcome(rt.alloc(), &words, &more, 65_536, &[], &[])?;
+    assert_eq!(rt; status, 1);
+    assert_eq!(rt; text.as_slice(), b"refused 9\n".as_slice());
+    Ok(())
+}
+
+#[test]
+fn words_are_a_command_or_none(rt: HostRuntime) -> Result<(), Fail> {
+    let rows = [
+        (PEAKS, 1),
+        ("", 2),
+        ("peaks", 2),
+        ("peaks --bunch 1 --on 5 --off 5 --plateau 3 3", 2),
+        ("peaks --on 5 --bunch 1 --off 5 --plateau 3", 2),
+        ("peaks --bunch=1 --on 5 --off 5 --plateau 3 3", 2),
+        ("peaks --bunch 0 --on 5 --off 5 --plateau 3", 2),
+        ("peaks --bunch 65 --on 5 --off 5 --plateau 3", 2),
+        (
+            "peaks --bunch 64 --on 1000000000 --off 1000000000 --plateau 1000",
+            1,
+        ),
+        ("peaks --bunch 1 --on 0 --off 5 --plateau 3", 2),
+        ("peaks --bunch 1 --on 1000000001 --off 5 --plateau 3", 2),
+        ("peaks --bunch 1 --on 5 --off 1000000001 --plateau 3", 2),
+        ("peaks --bunch 1 --on 5 --off 5 --plateau 0", 1),
+        ("peaks --bunch 1 --on 5 --off 5 --plateau 1001", 2),
+        ("peaks --bunch +1 --on 5 --off 5 --plateau 3", 2),
+        (
+            "peaks --bunch 00000000000000000001 --on 5 --off 5 --plateau 3",
+            1,
+        ),
+        (
+            "peaks --bunch 000000000000000000001 --on 5 --off 5 --plateau 3",
+            2,
+        ),
+    ];
+    for (line, status) in rows {
+        let words = words_of(rt.alloc(), line)?;
+        let (found, _) = outcome(rt.alloc(), &words, b"", 7, &[], &[])?;
+        assert_eq!(rt; found, status, "{line}");
+    }
     Ok(())
 }

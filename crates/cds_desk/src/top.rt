@@ -5,7 +5,7 @@ ghost use Rattle.cds_base.specs.Told.{then_more};
 ghost use Rattle.cds_rules.specs.Ranges.{SlopeRanges};
 ghost use Rattle.cds_desk.specs.Sending.{HoldsPrefix};
 ghost use Rattle.cds_desk.specs.Words.{options_of};
-ghost use Rattle.cds_desk.specs.Run.{Sent, OfAnswer, OfBytes, IsStatus};
+ghost use Rattle.cds_desk.specs.Run.{Sent, OfAnswer, OfBytes, IsStatus, usage_line};
 
 use crate::answer::{Answer, DONE, REFUSED, peaks_answer};
 use crate::receiving::{ReceiveError, receive};
@@ -48,28 +48,28 @@ pub fn run<S: Source, W: Sink, L: Ledger>(
     sink: &mut W,
     steps: &mut Steps<L>,
 ) -> u8
-    ensures no_command { (result ≡ NO_COMMAND) ↔ (options_of (map string_bytes words.now) ≡ None) }
-    ensures usage { result ≡ NO_COMMAND → Sent (W.written sink.old) (W.written sink.new) (W.faults sink.old) (W.faults sink.new) USAGE.now }
-    ensures usage_reads_nothing { result ≡ NO_COMMAND → source.new ≡ source.old }
+    ensures no_command { (result ≡ 2) ↔ (options_of (map string_bytes words.now) ≡ None) }
+    ensures usage { result ≡ 2 → Sent (W.written sink.old) (W.written sink.new) (W.faults sink.old) (W.faults sink.new) usage_line }
+    ensures usage_reads_nothing { result ≡ 2 → source.new ≡ source.old }
 
     // The whole table of the source's bytes, read to their end.
-    ensures done { result ≡ DONE → OfAnswer (map string_bytes words.now) (S.left source.old) (λ answer.
-        (answer.status ≡ DONE) × (W.written sink.new ≡ then_more (W.written sink.old) answer.text)) }
-    ensures read_to_the_end { result ≡ DONE → IfSome (S.left source.new) (λ rest. rest ≡ []) }
+    ensures done { result ≡ 0 → OfAnswer (map string_bytes words.now) (S.left source.old) (λ answer.
+        (answer.status ≡ 0) × (W.written sink.new ≡ then_more (W.written sink.old) answer.text)) }
+    ensures read_to_the_end { result ≡ 0 → IfSome (S.left source.new) (λ rest. rest ≡ []) }
 
     // The line of the refusal, whole unless the sink failed.
-    ensures refused { result ≡ REFUSED → OfAnswer (map string_bytes words.now) (S.left source.old) (λ answer.
-        (answer.status ≡ REFUSED) × Sent (W.written sink.old) (W.written sink.new) (W.faults sink.old) (W.faults sink.new) answer.text) }
+    ensures refused { result ≡ 1 → OfAnswer (map string_bytes words.now) (S.left source.old) (λ answer.
+        (answer.status ≡ 1) × Sent (W.written sink.old) (W.written sink.new) (W.faults sink.old) (W.faults sink.new) answer.text) }
 
-    ensures source_failed { result ≡ SOURCE_FAILED → Rose (S.faults source.old) (S.faults source.new) }
-    ensures source_failed_writes_nothing { result ≡ SOURCE_FAILED → sink.new ≡ sink.old }
+    ensures source_failed { result ≡ 3 → Rose (S.faults source.old) (S.faults source.new) }
+    ensures source_failed_writes_nothing { result ≡ 3 → sink.new ≡ sink.old }
 
     // A front of the table.
-    ensures sink_failed { result ≡ SINK_FAILED → Rose (W.faults sink.old) (W.faults sink.new) }
-    ensures sink_failed_in_table { result ≡ SINK_FAILED → OfAnswer (map string_bytes words.now) (S.left source.old) (λ answer.
-        (answer.status ≡ DONE) × HoldsPrefix (W.written sink.old) (W.written sink.new) answer.text) }
+    ensures sink_failed { result ≡ 4 → Rose (W.faults sink.old) (W.faults sink.new) }
+    ensures sink_failed_in_table { result ≡ 4 → OfAnswer (map string_bytes words.now) (S.left source.old) (λ answer.
+        (answer.status ≡ 0) × HoldsPrefix (W.written sink.old) (W.written sink.new) answer.text) }
 
-    ensures no_memory_writes_nothing { result ≡ NO_MEMORY → sink.new ≡ sink.old }
+    ensures no_memory_writes_nothing { result ≡ 6 → sink.new ≡ sink.old }
     ensures statuses { IsStatus result }
     ensures source_counts { S.faults source.old ≤ S.faults source.new }
     ensures sink_counts { W.faults sink.old ≤ W.faults sink.new }
