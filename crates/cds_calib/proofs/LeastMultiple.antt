@@ -130,15 +130,12 @@ IsLeast-more m l a i points d is within all read both =
     }
 
 -- where one amount more passes the limit, all do
-pub multiple_past : (m a i limit : ℕ) (points : List Point) (d : Point) → IsLeast m (take i points) → i < length points → All IsPoint points → a ≡ (get_or points i d).amount → ((l : ℕ) → IsLcm m a l → limit ≤ l) → limit ≤ common_multiple points
+pub multiple_past : (m a i limit : ℕ) (points : List Point) (d : Point) → IsLeast m (take i points) → i < length points → All IsPoint points → a ≡ (get_or points i d).amount → ((l : ℕ) → 0 < l → m ∣ l → a ∣ l → limit ≤ l) → limit ≤ common_multiple points
 multiple_past m a i limit points d is within all read past =
-    let here : IsPoint (get_or points i d) = All-get_or IsPoint points i d within all in
-    let both : (l : ℕ) × (0 < l) × IsLcm m a l = exists_lcm m a is.some (subst (λ n. 0 < n) (sym read) here.some) in
-    let more : IsLeast both.0 (take (i + 1) points) = IsLeast-more m both.0 a i points d is within all read both.2 in
     let whole : IsLeast (common_multiple points) points = IsLeast-common_multiple points all in
-    let le : both.0 ≤ common_multiple points = le_of_dvd whole.some (more.least (common_multiple points) (All-take (λ q. q.amount ∣ common_multiple points) (i + 1) points whole.multiple)) in
-    let far : limit ≤ both.0 = past both.0 both.2 in
-    omega arith
+    past (common_multiple points) whole.some
+    (is.least (common_multiple points) (All-take (λ q. q.amount ∣ common_multiple points) i points whole.multiple))
+    (subst (λ n. n ∣ common_multiple points) (sym read) (whole.multiple i d within))
 
 -- at the end of the loop
 pub common_multiple_all : (m i : ℕ) (points : List Point) → All IsPoint points → IsLeast m (take i points) → length points ≤ i → m ≡ common_multiple points
