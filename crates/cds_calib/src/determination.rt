@@ -19,7 +19,7 @@ struct Spread {
 }
 
 impl Spread {
-    /// Whether r^2 is at least q / 10000. Its two products have up to 210 bits, so they are not formed:
+    /// Whether r^2 is at least q / 10000. Its two products have up to 220 bits, so they are not formed:
     /// 10000 xy xy >= q xx yy exactly where 10000 xy / (xx q) >= yy / xy.
     fn reaches(&self, q: u32) -> bool
         requires { IsSpread self.now }

@@ -9,7 +9,7 @@ use std::alloc::Global;
 use std::marker::Model;
 
 /// The points of a calibration in their order, at most 64. Seen as their list. It takes all its memory when it is
-/// made, and keeps the plain sums of the list, so that a line costs the same however many points there are.
+/// made, and keeps the plain sums of the list, so that a line of weight `Equal` or `Origin` costs the same however many points there are.
 #[derive(Debug, Drop)]
 pub struct Points {
     items: Vec<Point>,

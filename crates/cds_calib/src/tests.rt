@@ -59,7 +59,17 @@ fn lines_of_each_weight_and_why_there_is_none(rt: HostRuntime) -> Result<(), Fai
         (191_889_225, FULL),
         (858_323_713, 4_503_599_570_611_401),
     ];
-    let cases: [(Weight, &[(u32, u64)], usize, Result<[i128; 4], Missing>); 19] = [
+    // it falls, and its least common multiple is past 2^60
+    let falling: [(u32, u64); 3] = [(49, 5_000_000), (45_619_078, 1_000_000), (515_771_281, 5)];
+    let cases: [(Weight, &[(u32, u64)], usize, Result<[i128; 4], Missing>); 22] = [
+        (Weight::Inverse, &falling, 1, Err(Missing::Unfit)),
+        (Weight::Inverse, &[(10, 105)], 1, Err(Missing::TooFew)),
+        (
+            Weight::Origin,
+            &[(MOST_AMOUNT, FULL)],
+            64,
+            Ok([900_719_925_474_099, 200_000_000, 0, 1]),
+        ),
         (Weight::Equal, &rising, 1, Ok([10, 1, 5, 1])),
         (Weight::Equal, &bent, 1, Ok([27, 14, 1, 2])),
         (
@@ -169,6 +179,7 @@ fn amounts_of_areas_up_to_the_limit(rt: HostRuntime) -> Result<(), Fail> {
     let five: [(u32, u64); 5] = [(10, 105), (20, 205), (50, 505), (100, 1005), (200, 2005)];
     let limits: [(u32, u64); 2] = [(1, 0), (1_000_000_000, FULL)];
     let below: [(u32, u64); 3] = [(7, 5), (191_889_225, 1_000_000), (858_323_713, 5_000_000)];
+    let steep: [(u32, u64); 3] = [(7, 0), (191_889_225, 0), (858_323_713, FULL)];
     let cases: [(
         Weight,
         &[(u32, u64)],
@@ -176,7 +187,27 @@ fn amounts_of_areas_up_to_the_limit(rt: HostRuntime) -> Result<(), Fail> {
         u32,
         u32,
         Result<[i128; 2], Missing>,
-    ); 10] = [
+    ); 12] = [
+        // y D' less the intercept is just below 2^126, and past it where the area is greater by 1
+        (
+            Weight::Inverse,
+            &steep,
+            491_760_115_810,
+            1,
+            1,
+            Ok([
+                8_507_059_173_015_577_992_352_416_867_916_352_045,
+                74_175_670_903_653_686_890_711_942_250_667,
+            ]),
+        ),
+        (
+            Weight::Inverse,
+            &steep,
+            491_760_115_811,
+            1,
+            1,
+            Err(Missing::Unfit),
+        ),
         (Weight::Equal, &rising, 155, 1, 1, Ok([15, 1])),
         (Weight::Equal, &rising, 155, 3, 2, Ok([45, 2])),
         (Weight::Equal, &rising, 0, 1, 1, Ok([-1, 2])),
@@ -258,7 +289,7 @@ fn determinations_are_rounded_down(rt: HostRuntime) -> Result<(), Fail> {
                 Ok(false)
             );
         } else {
-            assert!(rt; points.determination_at_least(0).is_err());
+            assert_eq!(rt; points.determination_at_least(0).err(), expected.err());
         }
     }
     Ok(())
