@@ -62,7 +62,7 @@ pub trait Door {
         requires taken { 0 < pairs self.old }
         ensures closes { IfSome (Self.In.given input) (λ given. IfSome (Self.In.left input) (λ left. IfSome (Self.Out.written output) (λ written.
             told self.new ≡ option_map (with_closed (closed_connection given left (Self.In.faults input) (Self.Out.faults output) written)) (told self.old)))) }
-        ensures told_stays { option_map before_closing (told self.new) ≡ told self.old }
+        ensures rest_stays { option_map before_closing (told self.new) ≡ told self.old }
         ensures one_less { pairs self.new + 1 ≡ pairs self.old }
         ensures faults_stay { faults self.new ≡ faults self.old };
 }

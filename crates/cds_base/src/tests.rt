@@ -1,3 +1,5 @@
+ghost use Rattle.std.specs.Prelude.{◌≡◌, IfSome};
+
 use super::*;
 use std::alloc::Global;
 use std::test::Fail;
@@ -88,7 +90,10 @@ fn add_connection(alloc: Global, door: &mut MemDoor, bytes: &[u8]) -> Result<(),
 }
 
 // What is read of the next connection in one call of room for three bytes, written back to it before it is closed.
-fn echo(door: &mut MemDoor, room: &mut [u8; 3]) -> Result<usize, Failed> {
+fn echo<D: Door>(door: &mut D, room: &mut [u8; 3]) -> Result<usize, Failed>
+    ensures pairs { D.pairs door.new ≡ D.pairs door.old }
+    ensures port { IfSome (D.told door.old) (λ told. IfSome (D.told door.new) (λ now. now.port ≡ told.port)) }
+{
     let (mut source, mut sink) = door.next()?;
     let read = source.read(room);
     let written = sink.write(room);
