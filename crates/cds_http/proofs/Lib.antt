@@ -7,3 +7,4 @@ pub mod StateLemmas
 pub mod ItemLemmas
 pub mod KnownLemmas
 pub mod MessageLemmas
+pub mod TotalityLemmas
