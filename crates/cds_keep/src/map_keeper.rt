@@ -1,4 +1,4 @@
-ghost use Rattle.std.specs.Prelude.{◌≡◌, [], false, IfOk, Some};
+ghost use Rattle.std.specs.Prelude.{◌≡◌, ◌+◌, ◌-◌, ◌^◌, ◌≤◌, ◌↔◌, [], false, min, IfOk, IsTrue, Some, Contains, if◌then◌else◌};
 ghost use Rattle.cds_keep.specs.Found.{records};
 
 use crate::error::{LoadError, PutError};
@@ -53,6 +53,24 @@ impl MapKeeper {
     {
         self.is_open
     }
+
+    /// Counts a call and answers whether it is one that is to fail, which counts as a fault.
+    fn fails(&mut self) -> bool
+        ensures listed { IsTrue result ↔ Contains self.old.failing self.new.calls }
+        ensures number { self.new.calls ≡ min (self.old.calls + 1) (2 ^ 64 - 1) }
+        ensures failing { self.new.failing ≡ self.old.failing }
+        ensures counts { self.old.faults ≤ self.new.faults }
+        ensures content { self.new.content ≡ self.old.content }
+        ensures open { self.new.is_open ≡ self.old.is_open }
+        ensures fault { self.new.faults ≡ (if result then min (self.old.faults + 1) (2 ^ 64 - 1) else self.old.faults) }
+    {
+        self.calls = self.calls.saturating_add(1);
+        let fails = self.failing.contains(&self.calls);
+        if fails {
+            self.faults = self.faults.saturating_add(1);
+        }
+        fails
+    }
 }
 
 impl Keeper for MapKeeper {
@@ -65,10 +83,8 @@ impl Keeper for MapKeeper {
     ghost faults = { λ s. s.faults };
 
     fn load(&mut self, _store: &str) -> Result<Records, LoadError> {
-        self.calls = self.calls.saturating_add(1);
         self.is_open = false;
-        if self.failing.contains(&self.calls) {
-            self.faults = self.faults.saturating_add(1);
+        if self.fails() {
             return Err(LoadError::Failed);
         }
         let records = self.held.copy()?;
@@ -77,9 +93,7 @@ impl Keeper for MapKeeper {
     }
 
     fn put(&mut self, body: &[u8]) -> Result<(), PutError> {
-        self.calls = self.calls.saturating_add(1);
-        if self.failing.contains(&self.calls) {
-            self.faults = self.faults.saturating_add(1);
+        if self.fails() {
             return Err(PutError::Failed);
         }
         self.held.add(body)?;
