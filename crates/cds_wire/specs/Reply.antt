@@ -1,5 +1,6 @@
 -- The JSON of the replies: compact, with the keys in byte order. Their forms are this project's own.
-use Rattle.std.specs.Prelude.{ℕ, List, Bool, codes}
+use Rattle.std.specs.Prelude.{ℕ, ◌&&◌, nat_le, List, Bool, codes}
+use Rattle.std.specs.List.{list_all}
 use Rattle.serde_json.specs.Data.{Data, number, unsigned, boolean, string, object, Members, member, no_members}
 use Rattle.serde_json.specs.Written.{compact_text}
 use Rattle.cds_wire.specs.declared.answer.Answer.{Answer}
@@ -29,3 +30,11 @@ fields_of (Refusal error n value) =
 -- the text of a reply: its object, compact as `serde_json` writes it
 abbrev pub reply_text : Answer → List ℕ
 reply_text answer = compact_text (object (fields_of answer))
+
+-- a small letter
+abbrev pub is_letter : ℕ → Bool
+is_letter byte = nat_le 97 byte && nat_le byte 122
+
+-- a word of small letters, which JSON writes as it is
+abbrev pub is_plain_word : List ℕ → Bool
+is_plain_word word = list_all is_letter word
