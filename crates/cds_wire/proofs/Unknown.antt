@@ -1,5 +1,5 @@
 -- The least unknown name of an object is the first unknown key of its map, since the keys ascend.
-use Rattle.std.proofs.Common.{◌≡◌, ℕ, Bool, true, false, not, List, [], ◌∷◌, map, filter, Option, Some, None, option_map, String, Bor, Global, Ordering, Less, Greater, string_bytes, nat_cmp, refl, ap, find, cond, ◌∙◌}
+use Rattle.std.proofs.Common.{◌≡◌, ℕ, Bool, true, false, not, List, [], ◌∷◌, map, filter, Option, Some, option_map, String, Bor, Global, Less, Greater, string_bytes, nat_cmp, refl, ap, find, cond, ◌∙◌}
 use Rattle.std.specs.Cmp.Lexicographic.{slice_cmp}
 use Rattle.std.proofs.lemmas.Cmp.{nat_list_cmp_total}
 use Rattle.std.specs.List.{list_any, AllByRecursion}

@@ -1,5 +1,5 @@
 -- The texts of replies.
-use Rattle.std.proofs.Common.{◌≡◌, ℕ, ◌<◌, ◌≤◌, ◌++◌, ◌∷◌, [], List, Bool, true, false, refl, ap, ◌∙◌, codes, decimal, append_assoc, arith}
+use Rattle.std.proofs.Common.{◌≡◌, ℕ, ◌≤◌, ◌++◌, ◌∷◌, [], List, true, false, refl, ap, ◌∙◌, codes, decimal, append_assoc, arith}
 use Rattle.std.proofs.lemmas.Bool.{ne_eqb, le-ltb, leb-true, and_parts}
 use Rattle.json.proofs.OnLiterals.{json_on_literals}
 use Rattle.json.specs.Print.{escape, escape_byte}
@@ -8,7 +8,7 @@ use Rattle.serde_json.specs.Written.{has_float}
 use Rattle.cds_wire.specs.declared.answer.Answer.{Answer}
 use Rattle.cds_wire.specs.declared.answer.Answer.TheVariants.{Trace, Draft, Freeze, Refusal}
 use Rattle.cds_wire.specs.declared.answer.Shown.TheVariants.{Number, Word}
-use Rattle.cds_wire.specs.Reply.{fields_of, reply_text, is_letter, is_plain_word}
+use Rattle.cds_wire.specs.Reply.{fields_of, reply_text, is_plain_word}
 
 -- no reply has a number with a fraction
 pub has_float-fields_of : (answer : Answer) → has_float (object (fields_of answer)) ≡ false
