@@ -1,8 +1,7 @@
 -- How the tables are held. No public clause names this.
-use Rattle.std.specs.Prelude.{◌≡◌, ℕ, ◌<◌, ◌≤◌, List, [], Option, IfSome, length, map, option_map, vec_len, vec_capacity}
+use Rattle.std.specs.Prelude.{◌≡◌, ℕ, ◌+◌, ◌<◌, ◌≤◌, List, [], Option, IfSome, All, length, map, take, drop, option_map, vec_len, vec_capacity}
 use Rattle.std.specs.Cmp.Lexicographic.{slice_cmp}
 use Rattle.std.specs.List.{HoldsAt}
-use Rattle.std.specs.List.Sorted.{IsPartitionPoint}
 use Rattle.std.specs.Ordering.{nat_cmp}
 use Rattle.std.specs.declared.cmp.Ordering.TheVariants.{Less, Greater}
 use Rattle.cds_book.specs.Tables.{NamedTraces, NamedMethod, TablesState, TablesValue, Room, trace_room, draft_room, freeze_room}
@@ -35,32 +34,46 @@ state_held a = record { traces = map traces_shown a.traces.items; methods = map 
 abbrev pub tables_held : Inside → TablesValue
 tables_held a = record { state = state_held a; room = option_map room_shown a.room }
 
--- the entry at this place has this name
+-- the entry at this place has this name; lesser names stand before it, and greater ones behind it
 pub record StandsAt {E : Type 0} (name_of : E → List ℕ) (entries : List E) (name : List ℕ) (at : ℕ) : Type 0 where
   pub within : at < length entries
   pub named : HoldsAt (λ e. name_of e ≡ name) entries at
+  pub lesser : All (λ e. slice_cmp nat_cmp (name_of e) name ≡ Less) (take at entries)
+  pub greater : All (λ e. slice_cmp nat_cmp (name_of e) name ≡ Greater) (drop (at + 1) entries)
 
 -- no entry has this name, and one of it would go to this place: lesser names stand before it, greater ones from it on
 pub record IsGapAt {E : Type 0} (name_of : E → List ℕ) (entries : List E) (name : List ℕ) (at : ℕ) : Type 0 where
   pub within : at ≤ length entries
-  pub parted : IsPartitionPoint (λ e. slice_cmp nat_cmp (name_of e) name ≡ Less) (λ e. slice_cmp nat_cmp (name_of e) name ≡ Greater) entries at
+  pub lesser : All (λ e. slice_cmp nat_cmp (name_of e) name ≡ Less) (take at entries)
+  pub greater : All (λ e. slice_cmp nat_cmp (name_of e) name ≡ Greater) (drop at entries)
+
+-- places of names among the traces, and among the methods
+abbrev pub IsTraceAt : List TraceEntry → List ℕ → ℕ → Type 0
+IsTraceAt entries name at = StandsAt (λ (e : NamedTraces). e.name) (map traces_shown entries) name at
+
+abbrev pub IsTraceGap : List TraceEntry → List ℕ → ℕ → Type 0
+IsTraceGap entries name at = IsGapAt (λ (e : NamedTraces). e.name) (map traces_shown entries) name at
+
+abbrev pub IsMethodAt : List MethodEntry → List ℕ → ℕ → Type 0
+IsMethodAt entries name at = StandsAt (λ (e : NamedMethod). e.name) (map method_shown entries) name at
+
+abbrev pub IsMethodGap : List MethodEntry → List ℕ → ℕ → Type 0
+IsMethodGap entries name at = IsGapAt (λ (e : NamedMethod). e.name) (map method_shown entries) name at
 
 -- what the room that was taken is good for
 abbrev pub HasRoom : Inside → Taken → Type 0
 HasRoom a (Version name at) =
-    StandsAt (λ (e : TraceEntry). e.name) a.traces.items name at
+    IsTraceAt a.traces.items name at
     × HoldsAt (λ (e : TraceEntry). vec_len e.versions < vec_capacity e.versions) a.traces.items at
 HasRoom a (Traces name at versions) =
-    IsGapAt (λ (e : TraceEntry). e.name) a.traces.items name at
+    IsTraceGap a.traces.items name at
     × (vec_len a.traces < vec_capacity a.traces)
     × (versions.items ≡ [])
     × (vec_len versions < vec_capacity versions)
-HasRoom a (Draft name at) = StandsAt (λ (e : MethodEntry). e.name) a.methods.items name at
-HasRoom a (Method name at) =
-    IsGapAt (λ (e : MethodEntry). e.name) a.methods.items name at
-    × (vec_len a.methods < vec_capacity a.methods)
+HasRoom a (Draft name at) = IsMethodAt a.methods.items name at
+HasRoom a (Method name at) = IsMethodGap a.methods.items name at × (vec_len a.methods < vec_capacity a.methods)
 HasRoom a (Freeze name at text) =
-    StandsAt (λ (e : MethodEntry). e.name) a.methods.items name at
+    IsMethodAt a.methods.items name at
     × HoldsAt (λ (e : MethodEntry). (e.draft ≡ text) × (vec_len e.versions < vec_capacity e.versions)) a.methods.items at
 
 -- the tables keep their rules, the kept counts are those of the tables, and the room that was taken is there
