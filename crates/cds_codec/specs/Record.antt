@@ -17,7 +17,7 @@ bytes_of_text text = to_be_bytes w32 (length text) ++ text
 -- the record of a change. Kind 1 puts a trace: its period in 64 bits, its number of samples in 32 bits and each sample
 -- in 32 bits. Kind 2 puts the text of a draft. Kind 3 freezes a version, whose number stands in 32 bits.
 abbrev pub record_of : Change → List ℕ
-record_of (Trace name signal) = front 1 name ++ (to_be_bytes w64 signal.period ++ bytes_of_samples signal)
+record_of (Trace name signal) = front 1 name ++ to_be_bytes w64 signal.period ++ bytes_of_samples signal
 record_of (Draft name text) = front 2 name ++ bytes_of_text text
 record_of (Freeze name version) = front 3 name ++ to_be_bytes w32 version
 

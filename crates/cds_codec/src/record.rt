@@ -2,7 +2,6 @@
 ghost use Rattle.std.specs.Prelude.{◌≡◌, ◌^◌, ◌<◌, ◌≤◌, ◌+◌, ◌++◌, length, IfOk};
 ghost use Rattle.std.specs.Int.{w32, to_be_bytes};
 ghost use Rattle.cds_book.specs.Plan.{IsCommand, command_of};
-ghost use Rattle.cds_book.specs.declared.command.Change.TheVariants.{Trace, Draft, Freeze};
 ghost use Rattle.cds_codec.specs.Record.{front, record_of, HasRecord};
 
 use cds_base::{Bytes, Name};
@@ -36,8 +35,9 @@ pub fn write(alloc: Global, change: &Change) -> Result<Bytes, AllocError>
 }
 
 /// The record of a trace that is put.
+#[tactic(auto, using(crate::proofs::Lengths::length_of_samples))]
 fn trace_record(alloc: Global, name: &Name, trace: &Trace) -> Result<Bytes, AllocError>
-    ensures value { IfOk result (λ bytes. bytes ≡ record_of (Trace name.now trace.now)) }
+    ensures value { IfOk result (λ bytes. bytes ≡ record_of (Change.Trace name.now trace.now)) }
     ensures short { IfOk result (λ bytes. length bytes < 2 ^ 32) }
 {
     let mut bytes = begin(alloc, TRACE, name)?;
@@ -50,7 +50,7 @@ fn trace_record(alloc: Global, name: &Name, trace: &Trace) -> Result<Bytes, Allo
 /// The record of a draft that is put.
 fn draft_record(alloc: Global, name: &Name, text: &Bytes) -> Result<Bytes, AllocError>
     requires { length text.now < 2 ^ 32 }
-    ensures value { IfOk result (λ bytes. bytes ≡ record_of (Draft name.now text.now)) }
+    ensures value { IfOk result (λ bytes. bytes ≡ record_of (Change.Draft name.now text.now)) }
     ensures short { IfOk result (λ bytes. length bytes ≤ length text.now + 128) }
 {
     let mut bytes = begin(alloc, DRAFT, name)?;
@@ -62,7 +62,7 @@ fn draft_record(alloc: Global, name: &Name, text: &Bytes) -> Result<Bytes, Alloc
 
 /// The record of a version that is frozen.
 fn freeze_record(alloc: Global, name: &Name, version: u32) -> Result<Bytes, AllocError>
-    ensures value { IfOk result (λ bytes. bytes ≡ record_of (Freeze name.now version)) }
+    ensures value { IfOk result (λ bytes. bytes ≡ record_of (Change.Freeze name.now version)) }
     ensures short { IfOk result (λ bytes. length bytes ≤ 128) }
 {
     let mut bytes = begin(alloc, FREEZE, name)?;
