@@ -1,6 +1,6 @@
 ghost use Rattle.std.specs.Prelude.{◌≡◌, ◌≢◌, ℕ, ◌^◌, ◌<◌, ◌≤◌, Bool, true, List, [], ◌∷◌, ◌++◌, length, Option, Some, Ok, Err, option_map, is_some, is_ok, IsOk, IsErr, IfOk, IfSome, OnOk, OnErr};
 ghost use Rattle.cds_base.specs.Faults.{Rose};
-ghost use Rattle.cds_keep.specs.Found.{Found, records, damaged};
+ghost use Rattle.cds_keep.specs.Found.{Found, records, damaged, OneMoreAtMost};
 
 use crate::error::{LoadError, PutError};
 use crate::records::Records;
@@ -40,8 +40,9 @@ pub trait Keeper {
         ensures count_stays { result ≢ Err LoadError.Failed → faults self.new ≡ faults self.old };
 
     /// Appends a record to the open store. `Failed` comes only where the count of faults rose in this call; after any
-    /// other answer the count is as before. After an error the told content is as before; whether a later load finds
-    /// a record whose put answered `Failed` is left open.
+    /// other answer the count is as before. After Ok a load of any name finds the told content. After an error the
+    /// told content is as before; after `Failed` a load finds it, or it with one more record behind it, since a record
+    /// whose put failed may be there at a later load.
     fn put(&mut self, body: &[u8]) -> Result<(), PutError>
         requires opened { is_open self.old ≡ true }
         requires short { length body.now < 2 ^ 32 }
@@ -49,6 +50,7 @@ pub trait Keeper {
         ensures appended { OnOk result (content self.new ≡ option_map (λ list. list ++ body.now ∷ []) (content self.old)) }
         ensures as_before { OnErr result (content self.new ≡ content self.old) }
         ensures finds_content { OnOk result ((name : List ℕ) → IfSome (finds self.new name) (λ f. Some f ≡ option_map records (content self.new))) }
+        ensures finds_more { result ≡ Err PutError.Failed → (name : List ℕ) → IfSome (finds self.new name) (λ f. IfSome (content self.new) (λ list. OneMoreAtMost list f)) }
         ensures finds_stays { result ≡ Err PutError.NoMemory → (name : List ℕ) → finds self.new name ≡ finds self.old name }
         ensures tells_finds { (name : List ℕ) → is_some (finds self.new name) ≡ is_some (finds self.old name) }
         ensures counts { faults self.old ≤ faults self.new }
