@@ -1,2 +1,5 @@
 pub mod PlaceLaws
 pub mod LookLaws
+pub mod VersionLaws
+pub mod TraceLaws
+pub mod HeldLaws

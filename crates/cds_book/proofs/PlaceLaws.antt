@@ -206,6 +206,18 @@ module _ {E : Type 0} (name_of : E → List ℕ) where
       let none : All (λ e. test e ≡ false) front = other_less name front (All-weaker (λ e. lt e ≡ true) (λ e. byte_cmp (name_of e) name ≡ Less) (λ e h. is_lt-less (byte_cmp (name_of e) name) h) front (filter_passes lt entries)) in
       find-append test front (entry ∷ back) ∙ ap₂ option_or (find-none test front none) found
 
+  -- what is kept of each entry is kept of the one of a name
+  pub named-All : (P : E → Type 0) (entries : List E) (name : List ℕ) (found : E) → All P entries → named name_of entries name ≡ Some found → P found
+  named-All P [] name found all is = cc
+  named-All P (e ∷ es) name found all is = by_test (bytes_eq (name_of e) name) refl (named-All P es name found (All-tail P e es all))
+    where
+      by_test : (b : Bool) → bytes_eq (name_of e) name ≡ b → (named name_of es name ≡ Some found → P found) → P found
+      by_test true here rest =
+          let same : Some e ≡ Some found = rw here at is in
+          let one : e ≡ found = cc in
+          subst P one (All-head P e es all)
+      by_test false other rest = rest (rw other at is)
+
   -- what is kept of each entry is kept when one is placed
   pub All-placed : (P : E → Type 0) (entries : List E) (entry : E) → All P entries → P entry → All P (placed name_of entries entry)
   All-placed P entries entry all here =

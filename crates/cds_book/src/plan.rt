@@ -105,7 +105,14 @@ impl Tables {
 fn is_latest_trace(versions: &[Trace], trace: &Trace) -> bool
     ensures { result ≡ is_latest same_signal versions.now trace.now }
 {
-    versions.last().is_some_and(|version| version.same(trace))
+    versions.last().is_some_and(|version| is_same(version, trace))
+}
+
+// Whether two traces are equal.
+fn is_same(version: &Trace, trace: &Trace) -> bool
+    ensures { result ≡ same_signal version.now trace.now }
+{
+    version.same(trace)
 }
 
 // Whether a text is the latest of the versions.
