@@ -41,7 +41,7 @@ counts-held a v name signal versions names new samples held view_is many are fre
         (rw (length_held, fresh', are', held.trace_versions, held.samples, long) (sym (counts-trace t held.tables name signal)))
 
 -- tables of equal lists are equal
-state_eq : (xs ys : List NamedTraces) (ms ns : List NamedMethod) → xs ≡ ys → ms ≡ ns → let s : TablesState = record { traces = xs; methods = ms } in let t : TablesState = record { traces = ys; methods = ns } in s ≡ t
+pub state_eq : (xs ys : List NamedTraces) (ms ns : List NamedMethod) → xs ≡ ys → ms ≡ ns → let s : TablesState = record { traces = xs; methods = ms } in let t : TablesState = record { traces = ys; methods = ns } in s ≡ t
 state_eq xs ys ms ns e f = cc
 
 -- values of equal tables and room are equal
@@ -49,7 +49,7 @@ value_eq : (s t : TablesState) (r q : Option Room) → s ≡ t → r ≡ q → l
 value_eq s t r q e f = cc
 
 -- entries of equal names and versions are equal
-entry_eq : (n m : List ℕ) (vs ws : List Signal) → n ≡ m → vs ≡ ws → let e : NamedTraces = record { name = n; versions = vs } in let f : NamedTraces = record { name = m; versions = ws } in e ≡ f
+pub entry_eq : (n m : List ℕ) (vs ws : List Signal) → n ≡ m → vs ≡ ws → let e : NamedTraces = record { name = n; versions = vs } in let f : NamedTraces = record { name = m; versions = ws } in e ≡ f
 entry_eq n m vs ws e f = cc
 
 -- an insertion among what is shown

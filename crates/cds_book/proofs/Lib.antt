@@ -3,3 +3,4 @@ pub mod LookLaws
 pub mod VersionLaws
 pub mod TraceLaws
 pub mod HeldLaws
+pub mod RoomLaws
