@@ -1,6 +1,6 @@
 -- What is kept of tables as they are held: the counts, and the rules of the tables after a change.
-use Rattle.std.proofs.Common.{◌≡◌, ◌∙◌, ℕ, zero, suc, ◌+◌, ◌<◌, ◌≤◌, ◌==◌, false, List, [], ◌∷◌, ◌++◌, length, get_or, set, take, drop, map, vec_len, Option, Some, None, option_map, Vec, Global, refl, sym, ap, ap₂, subst, arith}
-use Rattle.std.specs.Prelude.{IfSome}
+use Rattle.std.proofs.Common.{◌≡◌, ◌∙◌, ℕ, zero, suc, ◌+◌, ◌<◌, ◌≤◌, ◌==◌, Bool, true, false, not, Bor, List, [], ◌∷◌, ◌++◌, length, get_or, set, take, drop, map, vec_len, Option, Some, None, option_map, Vec, Global, refl, sym, ap, ap₂, subst, arith}
+use Rattle.std.specs.Prelude.{IfSome, IsSome, is_none, is_some, option_copied}
 use Rattle.std.specs.List.{insert}
 use Rattle.std.proofs.lemmas.Bool.Decides.{nat_tests}
 use Rattle.std.proofs.lemmas.List.{length-map, map-set, map-append, take-map, drop-map, get_or-map}
@@ -9,16 +9,17 @@ use Rattle.cds_book.specs.Held.{traces_shown, method_shown, room_shown, state_he
 use Rattle.cds_book.specs.Kept.{IsTables, trace_versions_in_all, samples_in_all, method_versions_in_all}
 use Rattle.cds_book.specs.Places.{placed, StandsAt}
 use Rattle.cds_book.specs.Plan.{applied, counts_of, with_signals, Accepts}
-use Rattle.cds_book.specs.Tables.{NamedTraces, NamedMethod, TablesState, TablesValue, Room, trace_room, signals_of}
+use Rattle.cds_book.specs.Tables.{NamedTraces, NamedMethod, TablesState, TablesValue, Room, trace_room, draft_room, freeze_room, signals_of, draft_of, texts_of}
 use Rattle.cds_book.specs.declared.command.Change.TheVariants as change
 use Rattle.cds_book.specs.declared.entry.TraceEntry.{TraceEntry}
-use Rattle.cds_book.specs.declared.limits.TheConstants.{MOST_TRACE_NAMES, MOST_VERSIONS, MOST_TRACE_VERSIONS, MOST_SAMPLES_IN_ALL}
+use Rattle.cds_book.specs.declared.limits.TheConstants.{MOST_TRACE_NAMES, MOST_VERSIONS, MOST_TRACE_VERSIONS, MOST_SAMPLES_IN_ALL, MOST_METHODS, MOST_METHOD_VERSIONS}
 use Rattle.cds_book.specs.declared.room.Taken.{Taken}
 use Rattle.cds_book.specs.declared.room.Taken.TheVariants.{Version, Traces}
 use Rattle.cds_book.specs.declared.tables.Tables.TheInside.{Inside}
 use Rattle.cds_book.proofs.PlaceLaws.{placed-stands, placed-gap}
 use Rattle.cds_book.proofs.LookLaws.{traces_named-at, traces_named-gap, signals_of-found}
 use Rattle.cds_book.proofs.TraceLaws.{trace_name, new_name, applied-trace, counts-trace, trace_versions-trace, samples-trace, IsTables-trace}
+use Rattle.cds_book.proofs.MethodLaws.{method_name, applied-draft, applied-freeze, counts-draft, counts-freeze}
 use mir.Val.{bool_byte}
 
 -- a name is new where it has no versions
@@ -144,3 +145,39 @@ module _ (a b : Inside) (v : TablesValue) (name : List ℕ) (signal : Signal) (v
         method_versions = puts.method_versions ∙ held.method_versions ∙ ap method_versions_in_all (ap (map method_shown) (sym puts.methods));
         room = subst (λ o. IfSome o (HasRoom b)) (sym puts.room) tt;
       }
+
+-- what is none where it is seen
+none_seen : (o : Option (Bor (List ℕ))) (b : Bool) → is_some o ≡ not b → b ≡ is_none (option_copied o)
+none_seen None true seen = refl
+none_seen None false seen = seen
+none_seen (Some x) true seen = seen
+none_seen (Some x) false seen = refl
+
+-- the count that a draft raises, from what is kept
+pub draft_counts-held : (a : Inside) (v : TablesValue) (name text : List ℕ) (draft : Option (Bor (List ℕ))) (is_new : Bool) (methods new : ℕ) → IsHeld a → tables_held a ≡ v → methods ≡ vec_len a.methods → option_copied draft ≡ draft_of v.state name → is_some draft ≡ not is_new → new ≡ bool_byte is_new →
+    (methods + new, MOST_METHODS) ∷ [] ≡ counts_of (change.Draft name text) (applied v.state (change.Draft name text))
+draft_counts-held a v name text draft is_new methods new held view_is many is seen fresh =
+    let t = state_held a in
+    let same : t ≡ v.state = ap (λ (w : TablesValue). w.state) view_is in
+    let length_held : methods ≡ length t.methods = many ∙ a.methods.ok.0 ∙ sym (length-map a.methods.items method_shown) in
+    let fresh' : new ≡ bool_byte (is_none (draft_of t name)) = fresh ∙ ap bool_byte (none_seen draft is_new seen) ∙ ap (λ o. bool_byte (is_none o)) (is ∙ ap (λ s. draft_of s name) (sym same)) in
+    subst (λ s. (methods + new, MOST_METHODS) ∷ [] ≡ counts_of (change.Draft name text) (applied s (change.Draft name text))) same
+        (rw (length_held, fresh') (sym (counts-draft t held.tables name text)))
+
+-- a draft that is there
+pub some_draft : {X : Type 0} (o : Option X) → IsSome o → (x : X) × (o ≡ Some x)
+some_draft None is = cc
+some_draft (Some x) is = (x, refl)
+
+-- the counts that a freeze raises, from those that are kept
+pub freeze_counts-held : (a : Inside) (v : TablesValue) (name : List ℕ) (version : ℕ) (texts : List (List ℕ)) → IsHeld a → tables_held a ≡ v → IsSome (draft_of v.state name) → texts ≡ texts_of v.state name →
+    (length texts + 1, MOST_VERSIONS) ∷ (a.method_versions + 1, MOST_METHOD_VERSIONS) ∷ [] ≡ counts_of (change.Freeze name version) (applied v.state (change.Freeze name version))
+freeze_counts-held a v name version texts held view_is is_there are =
+    let t = state_held a in
+    let draft = (some_draft (draft_of v.state name) is_there).0 in
+    let is : draft_of v.state name ≡ Some draft = (some_draft (draft_of v.state name) is_there).1 in
+    let same : t ≡ v.state = ap (λ (w : TablesValue). w.state) view_is in
+    let are' : texts ≡ texts_of t name = are ∙ ap (λ s. texts_of s name) (sym same) in
+    let is' : draft_of t name ≡ Some draft = ap (λ s. draft_of s name) same ∙ is in
+    subst (λ s. (length texts + 1, MOST_VERSIONS) ∷ (a.method_versions + 1, MOST_METHOD_VERSIONS) ∷ [] ≡ counts_of (change.Freeze name version) (applied s (change.Freeze name version))) same
+        (rw (are', held.method_versions) (sym (counts-freeze t held.tables name version draft is')))

@@ -1,15 +1,17 @@
 -- Taking room leaves what the tables hold.
-use Rattle.std.proofs.Common.{◌≡◌, ◌∙◌, ℕ, ◌+◌, ◌<◌, ◌≤◌, List, length, get_or, set, map, vec_len, vec_capacity, Option, Some, None, option_map, Vec, Global, refl, sym, ap, subst, arith, get_or-set_same}
+use Rattle.std.proofs.Common.{◌≡◌, ◌∙◌, ℕ, ◌+◌, ◌<◌, ◌≤◌, List, [], length, get_or, set, map, vec_len, vec_capacity, Option, Some, None, option_map, Vec, Global, refl, sym, ap, subst, arith, get_or-set_same}
 use Rattle.std.specs.Prelude.{IfSome}
 use Rattle.std.specs.List.{HoldsAt}
 use Rattle.std.specs.Vec.{with_item}
 use Rattle.std.proofs.Math.Seq.{map-set_same}
+use Rattle.std.specs.List.Sorted.{IsStrictlySortedBy}
 use Rattle.std.proofs.lemmas.List.{length-map}
+use Rattle.std.proofs.lemmas.List.Elements.{All-nil}
 use Rattle.cds_trace.specs.Signal.{Signal}
 use Rattle.cds_book.specs.Held.{traces_shown, method_shown, room_shown, state_held, tables_held, IsHeld, HasRoom, IsTraceAt, IsMethodAt}
-use Rattle.cds_book.specs.Kept.{IsTables, trace_versions_in_all, samples_in_all, method_versions_in_all}
+use Rattle.cds_book.specs.Kept.{IsTables, IsTraceEntry, IsMethodEntry, trace_versions_in_all, samples_in_all, method_versions_in_all}
 use Rattle.cds_book.specs.Places.{StandsAt}
-use Rattle.cds_book.specs.Tables.{NamedTraces, NamedMethod, TablesState, TablesValue}
+use Rattle.cds_book.specs.Tables.{NamedTraces, NamedMethod, TablesState, TablesValue, empty_tables}
 use Rattle.cds_book.specs.declared.entry.TraceEntry.{TraceEntry}
 use Rattle.cds_book.specs.declared.entry.MethodEntry.{MethodEntry}
 use Rattle.cds_book.specs.declared.room.Taken.{Taken}
@@ -82,3 +84,29 @@ module _ (a : Inside) (at : ℕ) (r e : TraceEntry) (room : Option Taken) (read 
   pub HasRoom-version : (entries : List TraceEntry) (name : List ℕ) → entries ≡ a.traces.items → IsTraceAt entries name at → vec_len e.versions + 1 ≤ vec_capacity e.versions → HasRoom (with_trace_entry a at e room) (Version name at)
   HasRoom-version entries name are stands grown =
       room_for_version a.traces.items at r e read shown_trace_entry name (subst (λ es. IsTraceAt es name at) are stands) (omega (arith, grown))
+
+-- tables that hold nothing keep all rules
+pub IsTables-empty : IsTables empty_tables
+unfolding IsStrictlySortedBy
+IsTables-empty = record {
+  trace_names = tt;
+  traces = All-nil IsTraceEntry;
+  few_traces = omega arith;
+  few_trace_versions = omega arith;
+  few_samples = omega arith;
+  method_names = tt;
+  methods = All-nil IsMethodEntry;
+  few_methods = omega arith;
+  few_method_versions = omega arith;
+}
+
+pub IsHeld-empty : (a : Inside) → a.traces.items ≡ [] → a.methods.items ≡ [] → a.trace_versions ≡ 0 → a.samples ≡ 0 → a.method_versions ≡ 0 → a.room ≡ None → IsHeld a
+IsHeld-empty a traces methods versions samples texts room =
+    let none : state_held a ≡ empty_tables = state_eq _ _ _ _ (ap (map traces_shown) traces) (ap (map method_shown) methods) in
+    record {
+      tables = subst IsTables (sym none) IsTables-empty;
+      trace_versions = versions ∙ ap (λ (s : TablesState). trace_versions_in_all s.traces) (sym none);
+      samples = samples ∙ ap (λ (s : TablesState). samples_in_all s.traces) (sym none);
+      method_versions = texts ∙ ap (λ (s : TablesState). method_versions_in_all s.methods) (sym none);
+      room = subst (λ o. IfSome o (HasRoom a)) (sym room) tt;
+    }
