@@ -1,9 +1,7 @@
 -- How the tables are held. No public clause names this.
-use Rattle.std.specs.Prelude.{◌≡◌, ℕ, ◌+◌, ◌<◌, ◌≤◌, List, [], Option, IfSome, All, length, map, take, drop, option_map, vec_len, vec_capacity}
-use Rattle.std.specs.Cmp.Lexicographic.{slice_cmp}
+use Rattle.std.specs.Prelude.{◌≡◌, ℕ, ◌<◌, List, [], IfSome, map, option_map, vec_len, vec_capacity}
 use Rattle.std.specs.List.{HoldsAt}
-use Rattle.std.specs.Ordering.{nat_cmp}
-use Rattle.std.specs.declared.cmp.Ordering.TheVariants.{Less, Greater}
+use Rattle.cds_book.specs.Places.{StandsAt, IsGapAt}
 use Rattle.cds_book.specs.Tables.{NamedTraces, NamedMethod, TablesState, TablesValue, Room, trace_room, draft_room, freeze_room}
 use Rattle.cds_book.specs.Kept.{IsTables, trace_versions_in_all, samples_in_all, method_versions_in_all}
 use Rattle.cds_book.specs.declared.entry.TraceEntry.{TraceEntry}
@@ -33,19 +31,6 @@ state_held a = record { traces = map traces_shown a.traces.items; methods = map 
 -- what tables are seen as
 abbrev pub tables_held : Inside → TablesValue
 tables_held a = record { state = state_held a; room = option_map room_shown a.room }
-
--- the entry at this place has this name; lesser names stand before it, and greater ones behind it
-pub record StandsAt {E : Type 0} (name_of : E → List ℕ) (entries : List E) (name : List ℕ) (at : ℕ) : Type 0 where
-  pub within : at < length entries
-  pub named : HoldsAt (λ e. name_of e ≡ name) entries at
-  pub lesser : All (λ e. slice_cmp nat_cmp (name_of e) name ≡ Less) (take at entries)
-  pub greater : All (λ e. slice_cmp nat_cmp (name_of e) name ≡ Greater) (drop (at + 1) entries)
-
--- no entry has this name, and one of it would go to this place: lesser names stand before it, greater ones from it on
-pub record IsGapAt {E : Type 0} (name_of : E → List ℕ) (entries : List E) (name : List ℕ) (at : ℕ) : Type 0 where
-  pub within : at ≤ length entries
-  pub lesser : All (λ e. slice_cmp nat_cmp (name_of e) name ≡ Less) (take at entries)
-  pub greater : All (λ e. slice_cmp nat_cmp (name_of e) name ≡ Greater) (drop at entries)
 
 -- places of names among the traces, and among the methods
 abbrev pub IsTraceAt : List TraceEntry → List ℕ → ℕ → Type 0

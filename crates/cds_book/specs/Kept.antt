@@ -1,16 +1,10 @@
 -- What all tables keep, whatever was done to them. This project's own.
 use Rattle.std.specs.Prelude.{◌≢◌, ℕ, ◌≤◌, List, All, IsTrue, is_ok, length, map, sum_by}
-use Rattle.std.specs.Cmp.Lexicographic.{slice_cmp}
 use Rattle.std.specs.List.{AllAdjacentBelow}
-use Rattle.std.specs.List.Sorted.{IsStrictlySortedBy}
-use Rattle.std.specs.Ordering.{nat_cmp}
 use Rattle.cds_rules.specs.Stated.{stated}
+use Rattle.cds_book.specs.Places.{AreRising}
 use Rattle.cds_book.specs.Tables.{NamedTraces, NamedMethod, TablesState}
 use Rattle.cds_book.specs.declared.limits.TheConstants.{MOST_TRACE_NAMES, MOST_VERSIONS, MOST_TRACE_VERSIONS, MOST_SAMPLES_IN_ALL, MOST_METHODS, MOST_METHOD_VERSIONS}
-
--- names in byte order, so that none comes twice
-abbrev pub AreRising : List (List ℕ) → Type 0
-AreRising names = IsStrictlySortedBy (slice_cmp nat_cmp) names
 
 -- a version is never equal to the one before it
 abbrev pub AreChanges : {X : Type 0} → List X → Type 0

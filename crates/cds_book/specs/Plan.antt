@@ -1,12 +1,13 @@
 -- What a command does to the tables: nothing, a change, or a refusal; and the tables after a change.
 -- The rules and their order are this project's own.
 use Rattle.std.specs.Prelude.{◌≡◌, ℕ, ◌+◌, ◌==◌, ◌&&◌, ◌⊎◌, nat_lt, Bool, false, List, [], ◌∷◌, ◌++◌, Option, Some, None, Result, Ok, Err, length, option_map, if◌then◌else◌}
-use Rattle.std.specs.Cmp.Lexicographic.{slice_cmp, pointwise}
-use Rattle.std.specs.List.{filter, find}
+use Rattle.std.specs.Cmp.Lexicographic.{pointwise}
+use Rattle.std.specs.List.{find}
 use Rattle.std.specs.Option.{option_map_or}
-use Rattle.std.specs.Ordering.{nat_cmp, int_eq, is_lt, is_gt}
+use Rattle.std.specs.Ordering.{int_eq}
 use Rattle.std.specs.Str.{bytes_eq}
 use Rattle.cds_trace.specs.Signal.{Signal}
+use Rattle.cds_book.specs.Places.{placed}
 use Rattle.cds_book.specs.Tables.{NamedTraces, NamedMethod, TablesState, Room, trace_room, draft_room, freeze_room, latest, signals_of, texts_of, draft_of}
 use Rattle.cds_book.specs.Kept.{IsMethod, trace_versions_in_all, samples_in_all, method_versions_in_all}
 use Rattle.cds_book.specs.declared.command.Command.{Command}
@@ -19,21 +20,15 @@ use Rattle.cds_book.specs.declared.error.PlanError.{PlanError}
 use Rattle.cds_book.specs.declared.error.PlanError.TheVariants.{NoMethod, Number, Full, NoMemory}
 use Rattle.cds_book.specs.declared.limits.TheConstants.{MOST_TRACE_NAMES, MOST_VERSIONS, MOST_TRACE_VERSIONS, MOST_SAMPLES_IN_ALL, MOST_METHODS, MOST_METHOD_VERSIONS}
 
--- the entries with this one at the place of its name in byte order, instead of one of the same name
-abbrev pub placed : {E : Type 0} → (E → List ℕ) → E → List E → List E
-placed name_of entry entries =
-    filter (λ e. is_lt (slice_cmp nat_cmp (name_of e) (name_of entry))) entries
-    ++ entry ∷ filter (λ e. is_gt (slice_cmp nat_cmp (name_of e) (name_of entry))) entries
-
 -- the tables with these versions of a trace
 abbrev pub with_signals : TablesState → List ℕ → List Signal → TablesState
 with_signals tables name versions =
-    record tables { traces = placed (λ (e : NamedTraces). e.name) (record { name = name; versions = versions }) tables.traces }
+    record tables { traces = placed (λ (e : NamedTraces). e.name) tables.traces (record { name = name; versions = versions }) }
 
 -- the tables with this draft and these versions of a method
 abbrev pub with_method : TablesState → List ℕ → List ℕ → List (List ℕ) → TablesState
 with_method tables name draft versions =
-    record tables { methods = placed (λ (e : NamedMethod). e.name) (record { name = name; draft = draft; versions = versions }) tables.methods }
+    record tables { methods = placed (λ (e : NamedMethod). e.name) tables.methods (record { name = name; draft = draft; versions = versions }) }
 
 -- the tables with the draft of a method as its next version, as before where there is no such method
 abbrev pub with_frozen : TablesState → List ℕ → Option (List ℕ) → TablesState

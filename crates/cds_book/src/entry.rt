@@ -1,6 +1,6 @@
 ghost use Rattle.std.specs.Prelude.{◌≡◌, IfOk, IfErr, map, option_copied};
 ghost use Rattle.cds_book.specs.Held.{traces_shown, method_shown, IsTraceAt, IsTraceGap, IsMethodAt, IsMethodGap};
-ghost use Rattle.cds_book.specs.Kept.{AreRising};
+ghost use Rattle.cds_book.specs.Places.{AreRising};
 ghost use Rattle.cds_book.specs.Tables.{NamedTraces, NamedMethod, numbered};
 
 use cds_base::{Bytes, Name};
@@ -27,7 +27,7 @@ pub(crate) fn trace_place(entries: &[TraceEntry], name: Name) -> Result<usize, u
     ensures found { IfOk result (IsTraceAt entries.now name) }
     ensures absent { IfErr result (IsTraceGap entries.now name) }
 {
-    entries.binary_search_by(|entry| entry.name.cmp(&name))
+    entries.binary_search_by_key(&name, |entry| entry.name)
 }
 
 /// Where the entry of a method stands, or else where it would go.
@@ -36,7 +36,7 @@ pub(crate) fn method_place(entries: &[MethodEntry], name: Name) -> Result<usize,
     ensures found { IfOk result (IsMethodAt entries.now name) }
     ensures absent { IfErr result (IsMethodGap entries.now name) }
 {
-    entries.binary_search_by(|entry| entry.name.cmp(&name))
+    entries.binary_search_by_key(&name, |entry| entry.name)
 }
 
 /// The version of this number, counted from 1.

@@ -1,7 +1,8 @@
-ghost use Rattle.std.specs.Prelude.{◌≡◌};
+ghost use Rattle.std.specs.Prelude.{◌≡◌, false, option_copied, IsSome};
+ghost use Rattle.std.specs.Option.{option_map_or};
 ghost use Rattle.std.specs.Str.{bytes_eq};
-ghost use Rattle.cds_book.specs.Kept.{IsMethod};
 ghost use Rattle.cds_book.specs.Plan.{planned, applied, counts_of, is_latest, limit_passed, same_signal, Answers, IsCommand};
+ghost use Rattle.cds_book.specs.Tables.{draft_of};
 ghost use Rattle.cds_book.specs.declared.command.Command.TheVariants as command;
 ghost use Rattle.cds_book.specs.declared.command.Change.TheVariants as change;
 
@@ -64,16 +65,25 @@ impl Tables {
     fn plan_draft(&self, alloc: Global, name: Name, text: &Bytes) -> Result<Plan, PlanError>
         ensures { Answers result (planned self.now.state (command.Draft name text.now)) }
     {
-        let draft = self.draft(name);
-        if draft == Some(text.as_slice()) {
+        if is_draft(self.draft(name), text.as_slice()) {
             return Ok(Plan::Unchanged);
         }
-        let methods = self.methods.len() as u64 + u64::from(draft.is_none());
-        if let Some(limit) = limit_passed(&[(methods, MOST_METHODS)]) {
+        if let Some(limit) = limit_passed(&self.draft_counts(name, text)) {
             return Err(PlanError::Full(limit));
         }
         let text = Bytes::from_vec(Vec::from_slice(alloc, text.as_slice())?);
         Ok(Plan::Change(Change::Draft { name, text }))
+    }
+
+    // The count that a draft raises, with its limit.
+    fn draft_counts(&self, name: Name, text: &Bytes) -> [(u64, u64); 1]
+        ensures { result ≡ counts_of (change.Draft name text.now) (applied self.now.state (change.Draft name text.now)) }
+    {
+        let is_new = self.draft(name).is_none();
+        [(
+            self.methods.len() as u64 + u64::from(is_new),
+            MOST_METHODS,
+        )]
     }
 
     fn plan_freeze(&self, name: Name, version: u32) -> Result<Plan, PlanError>
@@ -90,14 +100,22 @@ impl Tables {
         if version != next {
             return Err(PlanError::Number(next));
         }
-        let counts = [
-            (u64::from(next), MOST_VERSIONS),
-            (self.method_versions + 1, MOST_METHOD_VERSIONS),
-        ];
-        if let Some(limit) = limit_passed(&counts) {
+        if let Some(limit) = limit_passed(&self.freeze_counts(name, version)) {
             return Err(PlanError::Full(limit));
         }
         Ok(Plan::Change(Change::Freeze { name, version }))
+    }
+
+    // The counts that a freeze raises, with their limits.
+    fn freeze_counts(&self, name: Name, version: u32) -> [(u64, u64); 2]
+        requires { IsSome (draft_of self.now.state name) }
+        ensures { result ≡ counts_of (change.Freeze name version) (applied self.now.state (change.Freeze name version)) }
+    {
+        let texts = self.texts(name);
+        [
+            (texts.len() as u64 + 1, MOST_VERSIONS),
+            (self.method_versions + 1, MOST_METHOD_VERSIONS),
+        ]
     }
 }
 
@@ -105,7 +123,14 @@ impl Tables {
 fn is_latest_trace(versions: &[Trace], trace: &Trace) -> bool
     ensures { result ≡ is_latest same_signal versions.now trace.now }
 {
-    versions.last().is_some_and(|version| version.same(trace))
+    versions.last().is_some_and(|version| is_same(version, trace))
+}
+
+// Whether two traces are equal.
+fn is_same(version: &Trace, trace: &Trace) -> bool
+    ensures { result ≡ same_signal version.now trace.now }
+{
+    version.same(trace)
 }
 
 // Whether a text is the latest of the versions.
@@ -115,6 +140,13 @@ fn is_latest_text(versions: &[Bytes], text: &[u8]) -> bool
     versions
         .last()
         .is_some_and(|version| version.as_slice() == text)
+}
+
+// Whether there is a draft and it is this text.
+fn is_draft(draft: Option<&[u8]>, text: &[u8]) -> bool
+    ensures { result ≡ option_map_or (λ d. bytes_eq d text.now) (option_copied draft.entry) false }
+{
+    draft.is_some_and(|draft| draft == text)
 }
 
 // The first limit that a count passes.
