@@ -1,0 +1,7 @@
+pub mod PlaceLaws
+pub mod LookLaws
+pub mod VersionLaws
+pub mod TraceLaws
+pub mod MethodLaws
+pub mod HeldLaws
+pub mod RoomLaws
