@@ -62,8 +62,9 @@ fn clusters_of_runs<L: Ledger>(
     let mut rest = peaks;
     while !rest.is_empty() {
         let count = run_length(gap, pieces, rest);
-        clusters.push(cluster_of(alloc, &rest[..count], drops, trace, steps)?)?;
-        rest = &rest[count..];
+        let (run, later) = rest.split_at(count);
+        clusters.push(cluster_of(alloc, run, drops, trace, steps)?)?;
+        rest = later;
     }
     Ok(clusters)
 }
