@@ -139,21 +139,25 @@ clusters-few signal at drops [] stand = omega (arith, lines_before-most drops at
 clusters-few signal at drops (run ∷ runs) stand =
     let is : IsRun signal run = run-is signal run stand.1 stand.2 in
     let whole : List Part = parts_from signal (start_of run) Start run in
-    omega (arith,
+    omega (
+      arith,
       sum_by-cons (λ (cluster : Cluster). length cluster.parts) (cluster_of signal drops run) (map (cluster_of signal drops) runs),
       cut_all-few signal (start_of run) whole (end_of run) drops is.tiled,
       length-parts_from signal (start_of run) Start run,
       lines_before-mono drops at (start_of run) stand.0,
-      clusters-few signal (end_of run) drops runs stand.3)
+      clusters-few signal (end_of run) drops runs stand.3,
+    )
 
 pub clusters_of-few : (signal : Signal) (gap : ℕ) (events : List Event) (raw : List RawPeak) → 2 ≤ length signal.samples → RawFrom signal 0 raw → part_count (clusters_of signal gap events raw) ≤ length raw + length (drop_samples signal.period events)
 clusters_of-few signal gap events raw enough stand =
     let pieces : List Piece = pieces_of signal events in
     let peaks : List Placed = placed_peaks pieces raw in
-    omega (arith,
+    omega (
+      arith,
       clusters-few signal 0 (drop_samples signal.period events) (runs_of (fused gap pieces) peaks) (runs-from signal gap events raw enough stand),
       runs_of-count (fused gap pieces) peaks,
-      length-placed_peaks pieces raw)
+      length-placed_peaks pieces raw,
+    )
 
 -- the next run
 

@@ -1,9 +1,10 @@
 -- What drop lines leave of parts.
-use Rattle.std.proofs.Common.{◌≡◌, ℕ, suc, ◌+◌, ◌<◌, ◌≤◌, Bool, true, false, cond, List, [], ◌∷◌, ◌++◌, length, get_or, fold, refl, arith, ap, sym, ◌∙◌, inl, inr}
+use Rattle.std.proofs.Common.{◌≡◌, ℕ, suc, ◌+◌, ◌-◌, ◌*◌, ◌<◌, ◌≤◌, Bool, true, false, cond, List, [], ◌∷◌, ◌++◌, length, get_or, take, fold, refl, arith, ap, sym, ◌∙◌, inl, inr}
 use Rattle.std.specs.Prelude.{All, nat_lt}
-use Rattle.std.specs.List.{flat_map, list_any}
+use Rattle.std.specs.List.{flat_map, list_any, sum_by}
 use Rattle.std.proofs.lemmas.Bool.{cases_Bool, and_parts, and_left, or_parts, ltb-true, cond_both, lt-ltb}
-use Rattle.std.proofs.lemmas.List.{append-nil, length-append}
+use Rattle.std.proofs.lemmas.List.{take_more}
+use Rattle.std.proofs.lemmas.List.Sums.{sum_by_more}
 use Rattle.std.proofs.lemmas.List.Concat.{flat_map-append}
 use Rattle.std.proofs.lemmas.List.Elements.{All-nil, All-cons, All-head, All-tail, All-append}
 use Rattle.cds_base.specs.declared.cluster.Part.{Part}
@@ -11,6 +12,7 @@ use Rattle.cds_trace.specs.Signal.{Signal}
 use Rattle.cds_events.specs.declared.segments.Segment.{Segment}
 use Rattle.cds_events.specs.Extremes.{first_greatest}
 use Rattle.cds_events.specs.Drops.{crosses, is_cut, front, back, cut_by, cut_each, cut_all}
+use Rattle.cds_events.specs.Row.{IsInside}
 use Rattle.cds_events.specs.Segments.{Covers, IsMark, top_within, cut_each_by}
 use Rattle.cds_events.proofs.ListLaws.{flat_map-agree, All-flat_map}
 use Rattle.cds_events.proofs.SegmentLaws.{top_within-first_greatest}
@@ -42,12 +44,13 @@ pub cut_each_by-signal : (signal : Signal) (segments : List Segment) (start end 
 cut_each_by-signal signal segments start end pieces at covers marked mark =
     flat_map-agree (cut_by (top_within segments) at) (cut_by (first_greatest signal) at) pieces
     (λ k d l.
-      let piece : Part = get_or pieces k d in
-      let is : IsMarked segments start end piece = marked k d l in
-      cut_by-same (top_within segments) (first_greatest signal) at piece (λ e.
-        let inside = cut-inside at piece e in
-        (top_within-first_greatest signal start segments end piece.start at covers is.from mark is.low inside.0 (omega (arith, inside.1, is.high)),
-         top_within-first_greatest signal start segments end at piece.end covers mark is.to (omega (arith, inside.0, is.low)) inside.1 is.high)))
+    let piece : Part = get_or pieces k d in
+    let is : IsMarked segments start end piece = marked k d l in
+    cut_by-same (top_within segments) (first_greatest signal) at piece (λ e.
+    let inside = cut-inside at piece e in (
+      top_within-first_greatest signal start segments end piece.start at covers is.from mark is.low inside.0 (omega (arith, inside.1, is.high)),
+      top_within-first_greatest signal start segments end at piece.end covers mark is.to (omega (arith, inside.0, is.low)) inside.1 is.high,
+    )))
 
 -- and the ends of what is left are ends of segments
 cut_by-marked : (segments : List Segment) (start end : ℕ) (top : ℕ → ℕ → ℕ) (at : ℕ) (piece : Part) → IsMark segments at → IsMarked segments start end piece → All (IsMarked segments start end) (cut_by top at piece)
@@ -84,3 +87,14 @@ cut_all-whole signal part (at ∷ drops) none =
     let each = or_parts (crosses at part) (list_any (λ at. crosses at part) drops) none in
     let whole : is_cut at part ≡ false = and_left (crosses at part) _ each.0 in
     rw whole (cut_all-whole signal part drops each.1)
+
+-- one part more
+pub cut_parts-more : (signal : Signal) (parts : List Part) (drops : List ℕ) (pieces cut : List Part) (i : ℕ) (d : Part) → i < length parts → pieces ≡ cut_all signal (take i parts) drops → cut ≡ cut_all signal (get_or parts i d ∷ []) drops → pieces ++ cut ≡ cut_all signal (take (i + 1) parts) drops
+cut_parts-more signal parts drops pieces cut i d l before here =
+    rw (take_more parts i d l, cut_all-append signal (take i parts) (get_or parts i d ∷ []) drops, before, here) refl
+
+-- and the steps for it
+pub cut_parts-steps : (signal : Signal) (parts : List Part) (i : ℕ) (d : Part) (old now new : ℕ) → i < length parts → All (IsInside signal) parts → now ≤ old + sum_by (λ part. 2 * (part.end - part.start)) (take i parts) → new + 2 * (get_or parts i d).start ≤ now + 2 * (get_or parts i d).end → new ≤ old + sum_by (λ part. 2 * (part.end - part.start)) (take (i + 1) parts)
+cut_parts-steps signal parts i d old now new l inside before here =
+    let is : IsInside signal (get_or parts i d) = inside i d l in
+    omega (arith, before, here, is.order, sum_by_more (λ (part : Part). 2 * (part.end - part.start)) parts i d l)

@@ -40,17 +40,19 @@ found test k (suc n) some l m passes = elim (cases_Bool (test k)) [
   | inl here ↦ (k, record { is = find-here test k n here; low = omega arith; high = omega arith; passes = here; fails = λ j a b. absurd (omega arith) })
   | inr before ↦ (
       let other : (k ≡ some) → ⊥ = λ e. both_ways (test k) before (ap test e ∙ passes) in
-      let later = found test (k + 1) n some (omega arith) (omega arith) passes in
-      (later.0, record {
-        is = find-skip test k n (Some later.0) before later.1.is;
-        low = omega (arith, later.1.low);
-        high = omega (arith, later.1.high);
-        passes = later.1.passes;
-        fails = λ j a b. elim (cases_eq k j) [
-          | inl e ↦ ap test (sym e) ∙ before
-          | inr ne ↦ later.1.fails j (omega arith) b
-        ];
-      }))
+      let later = found test (k + 1) n some (omega arith) (omega arith) passes in (
+        later.0,
+        record {
+          is = find-skip test k n (Some later.0) before later.1.is;
+          low = omega (arith, later.1.low);
+          high = omega (arith, later.1.high);
+          passes = later.1.passes;
+          fails = λ j a b. elim (cases_eq k j) [
+            | inl e ↦ ap test (sym e) ∙ before
+            | inr ne ↦ later.1.fails j (omega arith) b
+          ];
+        },
+      ))
 ]
 
 -- a test of pairs that compares all numbers, and carries over
@@ -59,7 +61,7 @@ pub record IsOrder (beats : ℕ → ℕ → Bool) : Type 0 where
   pub carries : (i j k : ℕ) → beats i j ≡ true → beats j k ≡ true → beats i k ≡ true
 
 itself : (beats : ℕ → ℕ → Bool) → IsOrder beats → (i : ℕ) → beats i i ≡ true
-itself beats order i = elim (order.total i i) [ | inl e ↦ e | inr e ↦ e ]
+itself beats order i = elim (order.total i i) [ inl e ↦ e | inr e ↦ e ]
 
 best : (beats : ℕ → ℕ → Bool) → IsOrder beats → (k n : ℕ) → (i : ℕ) × (k ≤ i) × (i ≤ k + n) × ((m : ℕ) → k ≤ m → m ≤ k + n → beats i m ≡ true)
 best beats order k zero = (k, omega arith, omega arith, λ m a b. let e : k ≡ m = omega arith in ap (beats k) (sym e) ∙ itself beats order k)
@@ -67,14 +69,24 @@ best beats order k (suc n) =
     let so_far = best beats order k n in
     let last : ℕ = k + suc n in
     elim (order.total so_far.0 last) [
-      | inl stays ↦ (so_far.0, omega (arith, so_far.1), omega (arith, so_far.2), λ m a b. elim (cases_eq m last) [
+      | inl stays ↦ (
+        so_far.0,
+        omega (arith, so_far.1),
+        omega (arith, so_far.2),
+        λ m a b. elim (cases_eq m last) [
           | inl e ↦ ap (beats so_far.0) e ∙ stays
           | inr ne ↦ so_far.3 m a (omega arith)
-        ])
-      | inr changes ↦ (last, omega arith, omega arith, λ m a b. elim (cases_eq m last) [
+        ],
+      )
+      | inr changes ↦ (
+        last,
+        omega arith,
+        omega arith,
+        λ m a b. elim (cases_eq m last) [
           | inl e ↦ ap (beats last) e ∙ itself beats order last
           | inr ne ↦ order.carries last so_far.0 m changes (so_far.3 m a (omega arith))
-        ])
+        ],
+      )
     ]
 
 all-range : (test : ℕ → Bool) (a n : ℕ) → ((k : ℕ) → a ≤ k → k < a + n → test k ≡ true) → list_all test (range_with_len a n) ≡ true
@@ -105,7 +117,7 @@ pub first-best_is : (beats : ℕ → ℕ → Bool) (from to i : ℕ) → IsFirst
 first-best_is beats from to i first_best =
     first-is (is_best beats from to) from to i first_best.low first_best.high
     (λ j l m. false_from_ne_true (is_best beats from to j) (λ all.
-      both_ways (beats j i) (first_best.before j l m) (all-range_tells (beats j) from (to + 1 - from) i first_best.low (omega (arith, first_best.high)) all)))
+    both_ways (beats j i) (first_best.before j l m) (all-range_tells (beats j) from (to + 1 - from) i first_best.low (omega (arith, first_best.high)) all)))
     (all-range (beats i) from (to + 1 - from) (λ k l m. first_best.most k l (omega arith)))
 
 pub first-best : (beats : ℕ → ℕ → Bool) → IsOrder beats → (from to : ℕ) → from ≤ to → IsFirstBest beats from to (first (is_best beats from to) from to)
@@ -121,7 +133,7 @@ first-best beats order from to l =
       high = omega (arith, here.1.high);
       most = most;
       before = λ k a b. false_from_ne_true (beats k top) (λ beaten.
-        both_ways (is_best beats from to k) (here.1.fails k a b)
-        (all-range (beats k) from (to + 1 - from) (λ m c d. order.carries k top m beaten (most m c (omega arith)))));
+          both_ways (is_best beats from to k) (here.1.fails k a b)
+          (all-range (beats k) from (to + 1 - from) (λ m c d. order.carries k top m beaten (most m c (omega arith)))));
     } in
     rw here.1.is found_best

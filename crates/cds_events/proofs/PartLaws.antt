@@ -1,9 +1,9 @@
 -- Parts tile their cluster, also when they are cut, and the apex of each lies in it.
-use Rattle.std.proofs.Common.{◌≡◌, ℕ, suc, ◌+◌, ◌-◌, ◌*◌, ◌<◌, ◌≤◌, Bool, true, false, cond, List, [], ◌∷◌, ◌++◌, length, get_or, drop, fold, refl, arith, ap, sym, ◌∙◌, inl, inr}
+use Rattle.std.proofs.Common.{◌≡◌, ℕ, suc, ◌+◌, ◌-◌, ◌*◌, ◌<◌, ◌≤◌, Bool, true, false, cond, List, [], ◌∷◌, ◌++◌, length, get_or, take, drop, fold, refl, arith, ap, sym, ◌∙◌, inl, inr}
 use Rattle.std.specs.Prelude.{All, nat_lt}
 use Rattle.std.specs.List.{flat_map, sum_by}
 use Rattle.std.proofs.lemmas.Bool.{cases_Bool, cases_lt, ltb-false, ltb-true, lt-ltb, le-ltb}
-use Rattle.std.proofs.lemmas.List.{length-append}
+use Rattle.std.proofs.lemmas.List.{length-append, take_rest}
 use Rattle.std.proofs.lemmas.List.Sums.{sum_by-cons}
 use Rattle.std.proofs.lemmas.List.Elements.{All-nil, All-cons, All-head, All-tail, All-append}
 use Rattle.cds_base.specs.declared.cluster.Boundary.{Boundary}
@@ -217,6 +217,9 @@ next-reach : (signal : Signal) (peak : Placed) (later : List Placed) → Row sig
 next-reach signal peak [] row = omega (arith, row.0.falls)
 next-reach signal peak (next ∷ later) row = row-reach signal peak.end (next ∷ later) row.2
 
-pub part-reach : (signal : Signal) (peaks : List Placed) (d : Placed) (at : ℕ) → 0 < length peaks → Row signal peaks → next_apex (get_or peaks 0 d).apex (drop 1 peaks) ≤ fold (λ end peak. peak.end) at peaks
-part-reach signal [] d at some row = absurd (omega arith)
-part-reach signal (peak ∷ later) d at some row = next-reach signal peak later row
+-- the steps of a run, when one more part was found
+pub part-steps : (signal : Signal) (run rest : List Placed) (d : Placed) (start old now new : ℕ) → 0 < length run → Row signal run → 0 < length rest → Row signal rest → fold (λ end peak. peak.end) start rest ≡ end_of run → now + next_apex 0 run ≤ old + next_apex start rest → new + (get_or rest 0 d).apex ≤ now + next_apex (get_or rest 0 d).apex (take (length rest - 1) (drop 1 rest)) → new + start_of run ≤ old + end_of run
+part-steps signal run [] d start old now new some row more rest_row ends before here = absurd (omega arith)
+part-steps signal run (peak ∷ later) d start old now new some row more rest_row ends before here =
+    let there = rw (take_rest (peak ∷ later) 1) at here in
+    omega (arith, row-order signal run some row, next-reach signal peak later rest_row, ends, before, there)

@@ -46,9 +46,9 @@ pub apart-order : (a b : Piece) → SameOrApart a b → ((a.start ≡ b.start) �
 apart-order a b same_or_apart other l = elim same_or_apart [
   | inl same ↦ absurd (other same)
   | inr apart ↦ elim (overlaps-false a b apart) [
-      | inl before ↦ absurd (omega arith)
-      | inr behind ↦ behind
-    ]
+    | inl before ↦ absurd (omega arith)
+    | inr behind ↦ behind
+  ]
 ]
 
 piece_between-is : (signal : Signal) (from to : ℕ) → 2 ≤ length signal.samples → IfSome (piece_between signal from to) (IsPiece signal)

@@ -89,9 +89,9 @@ fold-trimmed (piece ∷ pieces) peak =
       start = omega (arith, starts.0, rest.start);
       end = omega (arith, ends.0, rest.end);
       raised = All-cons (λ (piece : Piece). piece.end ≤ peak.apex → piece.end ≤ left.start) piece pieces
-        (λ l. omega (arith, starts.1 l, rest.start)) rest.raised;
+          (λ l. omega (arith, starts.1 l, rest.start)) rest.raised;
       lowered = All-cons (λ (piece : Piece). peak.apex ≤ piece.start → left.end ≤ piece.start) piece pieces
-        (λ l. omega (arith, ends.1 l, rest.end)) rest.lowered;
+          (λ l. omega (arith, ends.1 l, rest.end)) rest.lowered;
     }
 
 belongs-inside : (peak : RawPeak) (piece : Piece) → belongs peak piece ≡ true → (piece.start < peak.apex) × (peak.apex < piece.end)
@@ -131,20 +131,20 @@ placed-each signal pieces raw are stand =
     let each : All (IsRaw signal 0) raw = raw-each signal 0 0 raw (omega arith) stand in
     let within : All (λ peak. Within (place pieces peak)) raw =
     λ k d l. (
-      let is : IsRaw signal 0 (get_or raw k d) = each k d l in
-      let stays = place-stays signal pieces (get_or raw k d) are is in
-      (stays.ends, rw stays.apex is.crest)) in
+    let is : IsRaw signal 0 (get_or raw k d) = each k d l in
+    let stays = place-stays signal pieces (get_or raw k d) are is in
+    (stays.ends, rw stays.apex is.crest)) in
     let kept : All Within (placed_peaks pieces raw) = All-filter is_peak Within (map (place pieces) raw) (All-map Within (place pieces) raw within) in
     let passes : All (λ peak. is_peak peak ≡ true) (placed_peaks pieces raw) = filter_passes is_peak (map (place pieces) raw) in
     λ k d l. (
-      let peak : Placed = get_or (placed_peaks pieces raw) k d in
-      let tests = and_parts (nat_lt peak.start peak.apex) (nat_lt peak.apex peak.end) (passes k d l) in
-      record {
-        rises = ltb-true peak.start peak.apex tests.0;
-        falls = ltb-true peak.apex peak.end tests.1;
-        crest = (kept k d l).1;
-        ends = (kept k d l).0;
-      })
+    let peak : Placed = get_or (placed_peaks pieces raw) k d in
+    let tests = and_parts (nat_lt peak.start peak.apex) (nat_lt peak.apex peak.end) (passes k d l) in
+    record {
+      rises = ltb-true peak.start peak.apex tests.0;
+      falls = ltb-true peak.apex peak.end tests.1;
+      crest = (kept k d l).1;
+      ends = (kept k d l).0;
+    })
 
 -- an earlier and a later peak: a sample lies between their apexes, and where they aren't fused the later begins behind the end of the earlier, or there
 pub record IsBefore (gap : ℕ) (pieces : List Piece) (a b : Placed) : Type 0 where

@@ -82,17 +82,17 @@ best-to signal from to at (x ∷ xs) end best l m covers mark_from mark_to told 
           let same : at ≡ to = omega (arith, covers.0) in
           rw (best-behind signal from to at (x ∷ xs) end best (omega arith) covers) (subst (λ (k : ℕ). BestTo signal from k best) same told))
       | inr within ↦ elim out_from [
-          | inl low ↦ (
-              let taken : is_within from to x ≡ true = and_from (nat_le from x.from) (nat_le x.to to) (le-leb from x.from low) (le-leb x.to to within) in
-              let here : BestTo signal from x.from best = rw covers.0 told in
-              let told_x : BestTo signal from x.to (Some (higher best x)) = higher-best signal from best x here low covers.1 in
-              rw taken (best-to signal from to x.to xs end (Some (higher best x)) within m covers.2 rest_from rest_to told_x))
-          | inr high ↦ (
-              let before : x.from < from = omega (arith, covers.1.order) in
-              let left : is_within from to x ≡ false = and_left (nat_le from x.from) (nat_le x.to to) (lt-leb from x.from before) in
-              let told_x : BestTo signal from x.to best = nothing-before signal from at x.to best (omega (arith, covers.0)) high told in
-              rw left (best-to signal from to x.to xs end best within m covers.2 rest_from rest_to told_x))
-        ]
+        | inl low ↦ (
+            let taken : is_within from to x ≡ true = and_from (nat_le from x.from) (nat_le x.to to) (le-leb from x.from low) (le-leb x.to to within) in
+            let here : BestTo signal from x.from best = rw covers.0 told in
+            let told_x : BestTo signal from x.to (Some (higher best x)) = higher-best signal from best x here low covers.1 in
+            rw taken (best-to signal from to x.to xs end (Some (higher best x)) within m covers.2 rest_from rest_to told_x))
+        | inr high ↦ (
+            let before : x.from < from = omega (arith, covers.1.order) in
+            let left : is_within from to x ≡ false = and_left (nat_le from x.from) (nat_le x.to to) (lt-leb from x.from before) in
+            let told_x : BestTo signal from x.to best = nothing-before signal from at x.to best (omega (arith, covers.0)) high told in
+            rw left (best-to signal from to x.to xs end best within m covers.2 rest_from rest_to told_x))
+      ]
     ]
 
 top-best : (signal : Signal) (from to : ℕ) (best : Option Segment) → from < to → BestTo signal from to best → top_or from best ≡ first_greatest signal from to

@@ -101,7 +101,7 @@ under : (x y z : ℤ) → x ≤ℤ y → y <ℤ z → x ≤ℤ z
 under x y z a b = omega (arith, ints)
 
 split : (k mid : ℕ) → (k ≤ mid) ⊎ (mid ≤ k)
-split k mid = elim (cases_lt mid k) [ | inl l ↦ inr (omega arith) | inr l ↦ inl l ]
+split k mid = elim (cases_lt mid k) [ inl l ↦ inr (omega arith) | inr l ↦ inl l ]
 
 -- of two ranges that meet, the later one has the top of both where its own is higher
 pub top-later : (signal : Signal) (from mid to a b : ℕ) → IsTop signal from mid a → IsTop signal mid to b → sample_at signal a <ℤ sample_at signal b → IsTop signal from to b

@@ -19,10 +19,10 @@ loop-from-preserved g c =
       within = c.next_line-to.ensures.before;
       covers = rw (items, ← told.to) longer;
       marks = λ k d l.
-        let at : ℕ = get_or c.args.drops.now k d in
-        let clear : IsOutside segment.from segment.to at = rw (told.from, told.to) (c.next_line-to.ensures.clear k d l) in
-        let all : All (λ s. IsOutside s.from s.to at) (before ++ segment ∷ []) = All-push (λ s. IsOutside s.from s.to at) before segment (kept.marks k d l) clear in
-        rw items all;
+          let at : ℕ = get_or c.args.drops.now k d in
+          let clear : IsOutside segment.from segment.to at = rw (told.from, told.to) (c.next_line-to.ensures.clear k d l) in
+          let all : All (λ s. IsOutside s.from s.to at) (before ++ segment ∷ []) = All-push (λ s. IsOutside s.from s.to at) before segment (kept.marks k d l) clear in
+          rw items all;
       least = omega (arith, kept.least, told.counted);
       most = omega (arith, kept.most, told.counted, told.from, c.next_line-to.ensures.behind);
     }
