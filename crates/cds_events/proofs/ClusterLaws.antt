@@ -15,7 +15,8 @@ use Rattle.cds_trace.specs.Signal.{Signal}
 use Rattle.cds_events.specs.declared.pieces.Piece.{Piece}
 use Rattle.cds_events.specs.declared.placed.Placed.{Placed}
 use Rattle.cds_events.specs.Runs.{fused, before_runs, runs_of, fused_after, run_length}
-use Rattle.cds_events.specs.Parts.{Tiles, parts_from}
+use Rattle.cds_base.specs.Tiles.{Tiles}
+use Rattle.cds_events.specs.Parts.{parts_from}
 use Rattle.cds_events.specs.Pieces.{pieces_of}
 use Rattle.cds_events.specs.Placed.{placed_peaks}
 use Rattle.cds_events.specs.Drops.{drop_samples, cut_all}

@@ -12,7 +12,8 @@ use Rattle.cds_base.specs.declared.cluster.Part.{Part}
 use Rattle.cds_trace.specs.Signal.{Signal}
 use Rattle.cds_events.specs.declared.placed.Placed.{Placed}
 use Rattle.cds_events.specs.Extremes.{first_greatest}
-use Rattle.cds_events.specs.Parts.{Tiles, valley, part_end, parts_from}
+use Rattle.cds_base.specs.Tiles.{Tiles}
+use Rattle.cds_events.specs.Parts.{valley, part_end, parts_from}
 use Rattle.cds_events.specs.Arrangement.{start_of, end_of}
 use Rattle.cds_events.specs.Drops.{is_cut, front, back, cut_by, cut_each, cut_all}
 use Rattle.cds_events.specs.Row.{IsPlaced, IsAhead, Row, IsInside, next_apex}

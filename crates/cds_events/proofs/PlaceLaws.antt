@@ -14,6 +14,7 @@ use Rattle.cds_events.specs.Placed.{belongs, trimmed, over_range, place, is_peak
 use Rattle.cds_events.specs.Runs.{fused}
 use Rattle.cds_events.specs.Row.{IsPlaced}
 use Rattle.cds_events.specs.Standing.{IsCrest, IsRaw, RawFrom}
+use Rattle.cds_events.proofs.TopLaws.{IsTop, first_greatest-top, top-crest}
 use Rattle.cds_events.proofs.ListLaws.{find-passes, find-all, find-none, pairs-map}
 use Rattle.cds_events.proofs.PieceLaws.{IsPiece, SameOrApart, ArePieces, apart-order}
 
@@ -26,10 +27,16 @@ raw-each signal low at (peak ∷ raw) l stand =
       follows = omega (arith, stand.0.follows);
       rises = stand.0.rises;
       falls = stand.0.falls;
-      crest = stand.0.crest;
+      apex = stand.0.apex;
       ends = stand.0.ends;
     } in
     All-cons (IsRaw signal low) peak raw is (raw-each signal low peak.end raw (omega (arith, is.follows, is.rises, is.falls)) stand.1)
+
+-- the apex of a raw peak is a crest
+raw-crest : (signal : Signal) (at : ℕ) (peak : RawPeak) → IsRaw signal at peak → IsCrest signal peak.apex
+raw-crest signal at peak is =
+    let top : IsTop signal peak.start peak.end peak.apex = rw is.apex (first_greatest-top signal peak.start peak.end (omega (arith, is.rises, is.falls))) in
+    top-crest signal peak.start peak.end peak.apex top is.rises is.falls
 
 -- two raw peaks in their order
 record InOrder (signal : Signal) (a b : RawPeak) : Type 0 where
@@ -43,7 +50,7 @@ raw-pairs signal at (peak ∷ raw) stand =
       follows = omega arith;
       rises = stand.0.rises;
       falls = stand.0.falls;
-      crest = stand.0.crest;
+      apex = stand.0.apex;
       ends = stand.0.ends;
     } in
     let later : All (IsRaw signal peak.end) raw = raw-each signal peak.end peak.end raw (omega arith) stand.1 in
@@ -133,7 +140,7 @@ placed-each signal pieces raw are stand =
     λ k d l. (
     let is : IsRaw signal 0 (get_or raw k d) = each k d l in
     let stays = place-stays signal pieces (get_or raw k d) are is in
-    (stays.ends, rw stays.apex is.crest)) in
+    (stays.ends, rw stays.apex (raw-crest signal 0 (get_or raw k d) is))) in
     let kept : All Within (placed_peaks pieces raw) = All-filter is_peak Within (map (place pieces) raw) (All-map Within (place pieces) raw within) in
     let passes : All (λ peak. is_peak peak ≡ true) (placed_peaks pieces raw) = filter_passes is_peak (map (place pieces) raw) in
     λ k d l. (
@@ -190,7 +197,7 @@ place-before signal gap pieces a b are order =
       follows = omega arith;
       rises = order.second.rises;
       falls = order.second.falls;
-      crest = order.second.crest;
+      apex = order.second.apex;
       ends = order.second.ends;
     } in
     let apex_b : (place pieces b).apex ≡ b.apex = (place-stays signal pieces b are is_b).apex in
