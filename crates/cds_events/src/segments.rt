@@ -17,7 +17,12 @@ pub(crate) struct Segment {
 }
 
 /// Reads a segment. One step for each sample, its ends among them.
-fn segment_between<L: Ledger>(trace: &Trace, from: u32, to: u32, steps: &mut Steps<L>) -> Segment
+pub(crate) fn segment_between<L: Ledger>(
+    trace: &Trace,
+    from: u32,
+    to: u32,
+    steps: &mut Steps<L>,
+) -> Segment
     requires order { from < to }
     requires end { to < length trace.now.samples }
     ensures value { IsSegment trace.now result }
