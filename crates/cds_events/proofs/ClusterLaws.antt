@@ -1,7 +1,7 @@
 -- The clusters of runs of fused peaks stand in order, and have few parts.
-use Rattle.std.proofs.Common.{◌≡◌, ℕ, suc, ◌+◌, ◌-◌, ◌*◌, ◌<◌, ◌≤◌, Bool, true, false, cond, List, [], ◌∷◌, ◌++◌, length, get_or, map, take, drop, fold, refl, arith, ap, sym, ◌∙◌, inl, inr}
+use Rattle.std.proofs.Common.{◌≡◌, ℕ, ◌+◌, ◌-◌, ◌*◌, ◌<◌, ◌≤◌, Bool, cond, List, [], ◌∷◌, ◌++◌, length, map, take, drop, refl, arith, ◌∙◌, inl, inr}
 use Rattle.std.specs.Prelude.{All}
-use Rattle.std.specs.List.{sum_by, count_by, AllPairs}
+use Rattle.std.specs.List.{sum_by, AllPairs}
 use Rattle.std.proofs.lemmas.Bool.{cases_Bool}
 use Rattle.std.proofs.lemmas.List.Sums.{sum_by-cons, fold_push}
 use Rattle.std.proofs.lemmas.List.{append_assoc}
@@ -22,7 +22,7 @@ use Rattle.cds_events.specs.Pieces.{pieces_of}
 use Rattle.cds_events.specs.Placed.{placed_peaks}
 use Rattle.cds_events.specs.Drops.{drop_samples, is_drop, drop_count, cut_all}
 use Rattle.cds_events.specs.Arrangement.{start_of, end_of, cluster_of, clusters_of}
-use Rattle.cds_events.specs.Row.{IsPlaced, IsAhead, Row, RunsFrom, IsInside, next_apex, reached}
+use Rattle.cds_events.specs.Row.{IsPlaced, Row, RunsFrom, IsInside, reached}
 use Rattle.cds_events.specs.Standing.{IsPart, IsCluster, RawFrom, ClustersFrom, BeginsAtStart, part_count}
 use Rattle.cds_events.proofs.ListLaws.{pairs-head, pairs-tail}
 use Rattle.cds_events.proofs.RunLaws.{runs_of-cons, runs_of-split}

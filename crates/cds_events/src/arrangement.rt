@@ -42,7 +42,7 @@ fn cluster_of<L: Ledger>(
     })
 }
 
-/// The clusters of the runs of these peaks.
+/// The clusters of the runs of these peaks. At most three steps for each sample of the trace.
 fn clusters_of_runs<L: Ledger>(
     alloc: Global,
     gap: u32,

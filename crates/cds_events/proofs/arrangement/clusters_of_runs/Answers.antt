@@ -1,9 +1,9 @@
-use Rattle.std.proofs.Common.{refl, ◌≡◌, ◌∙◌, ℕ, ◌++◌, List, [], ◌∷◌, Bool, length, take, drop, map, ◌<◌, ◌≤◌, arith, ap, sym}
+use Rattle.std.proofs.Common.{refl, ◌≡◌, ◌∙◌, ℕ, ◌++◌, List, [], ◌∷◌, Bool, length, take, ◌<◌, arith, ap}
 use Rattle.cds_base.specs.declared.cluster.Cluster.{Cluster}
 use Rattle.cds_events.specs.declared.placed.Placed.{Placed}
-use Rattle.cds_events.specs.Runs.{fused, runs_of}
-use Rattle.cds_events.specs.Arrangement.{cluster_of, start_of, end_of}
-use Rattle.cds_events.specs.Row.{Row, RunsFrom, reached}
+use Rattle.cds_events.specs.Runs.{fused}
+use Rattle.cds_events.specs.Arrangement.{cluster_of, end_of}
+use Rattle.cds_events.specs.Row.{reached}
 use Rattle.cds_events.proofs.ClusterLaws.{runs-split, made-more, reached-push, run-ends}
 use Rattle.cds_events.proofs.arrangement.clusters_of_runs.Goals as goal
 
