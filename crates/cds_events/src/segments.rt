@@ -1,6 +1,6 @@
 ghost use Rattle.std.specs.Prelude.{◌≡◌, ◌+◌, ◌*◌, ◌<◌, ◌≤◌, All, IfOk, None, length};
 ghost use Rattle.std.specs.List.{fold};
-ghost use Rattle.cds_events.specs.Segments.{IsSegment, Covers, IsOutside, IsMark, higher, is_within, best_with, top_or, top_within};
+ghost use Rattle.cds_events.specs.Segments.{IsSegment, Covers, IsOutside, IsMark, higher, is_within, best_with, top_within};
 
 use cds_base::{NoMemory, Steps};
 use cds_trace::Trace;
