@@ -7,3 +7,4 @@ pub mod NameLaws
 pub mod Clock
 pub mod Door
 pub mod MemDoor
+pub mod Tiles
