@@ -27,4 +27,4 @@ retention_of t dead = lowest_terms (pos t -ℤ pos dead) dead
 
 -- p / v: the height of a peak over that of the valley
 abbrev pub peak_valley_of : Ratio → Ratio → Fraction
-peak_valley_of p v = lowest_terms (p.num *ℤ pos v.den) (p.den * unsigned_abs v.num)
+peak_valley_of p v = lowest_terms (p.num *ℤ pos v.den) (unsigned_abs v.num * p.den)

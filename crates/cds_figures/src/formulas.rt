@@ -82,5 +82,14 @@ pub fn peak_valley(p: Ratio, v: Ratio) -> Frac
     requires positive { pos 0 <ℤ v.num }
     ensures { result ≡ peak_valley_of p v }
 {
-    Frac::new(p.num * i128::from(v.den), i128::from(p.den) * v.num)
+    Frac::new(product(p.num, v.den), product(v.num, p.den))
+}
+
+/// A numerator times a divisor.
+fn product(num: i128, den: u64) -> i128
+    requires { unsigned_abs num < RATIO_LIMIT }
+    ensures value { result ≡ num *ℤ pos den }
+    ensures small { unsigned_abs result ≤ 2 ^ 60 * den }
+{
+    num * i128::from(den)
 }

@@ -1,4 +1,4 @@
-ghost use Rattle.std.specs.Prelude.{◌≡◌, ◌+◌, ◌-◌, ◌*◌, ◌^◌, ◌<◌, ◌≤◌, pos, ◌-ℤ◌, ◌*ℤ◌, ◌<ℤ◌, length, unsigned_abs, IfSome};
+ghost use Rattle.std.specs.Prelude.{◌≡◌, ◌+◌, ◌-◌, ◌*◌, ◌/◌, ◌^◌, ◌<◌, ◌≤◌, pos, ◌-ℤ◌, ◌*ℤ◌, ◌<ℤ◌, length, unsigned_abs, IfSome};
 ghost use Rattle.cds_trace.specs.declared.trace.TheConstants.{LAST_TIME_US};
 ghost use Rattle.cds_figures.specs.Height.{height_by_span};
 ghost use Rattle.cds_figures.specs.Crossings.{scaled_height, scaled_level, meeting_time, left_crossing, right_crossing, crossings_of};
@@ -9,13 +9,22 @@ use cds_trace::Trace;
 use std::sync::ledger::Ledger;
 
 /// Levels are stated in parts of a peak's height of which the height has this many.
-const TWENTIETHS: i64 = 20;
+const TWENTIETHS: u8 = 20;
 
 /// A level of a peak's height and the height at the apex, both times twenty times the line's span, in counts.
 #[derive(Clone, Copy)]
 struct Level {
     at: i64,
     top: i64,
+}
+
+/// So many times a height. Heights are times a line's span, in counts.
+fn times(height: i64, count: u8) -> i64
+    requires { unsigned_abs height ≤ 2 ^ 49 }
+    ensures value { result ≡ height *ℤ pos count }
+    ensures small { unsigned_abs result ≤ 2 ^ 49 * count }
+{
+    height * i64::from(count)
 }
 
 /// The height at the sample `i`, times twenty times the line's span. One step.
@@ -27,7 +36,7 @@ fn scaled_height<L: Ledger>(i: u32, line: &Line, trace: &Trace, steps: &mut Step
     ensures small { unsigned_abs result ≤ 20 * 2 ^ 49 }
     ensures counted { steps.new ≡ steps.old + 1 }
 {
-    height_by_span(i, line, trace, steps) * TWENTIETHS
+    times(height_by_span(i, line, trace, steps), TWENTIETHS)
 }
 
 /// The level of so many twentieths of the height at the apex. One step.
@@ -52,9 +61,20 @@ fn level_of<L: Ledger>(
 {
     let height = height_by_span(apex, line, trace, steps);
     Level {
-        at: height * i64::from(twentieths),
-        top: height * TWENTIETHS,
+        at: times(height, twentieths),
+        top: times(height, TWENTIETHS),
     }
+}
+
+/// As much of a period as a part is of a whole, rounded down.
+fn share(period: u64, part: u64, whole: u64) -> u64
+    requires some { 0 < whole }
+    requires within { part ≤ whole }
+    ensures value { result ≡ period * part / whole }
+    ensures most { result ≤ period }
+    ensures short { part < whole → 0 < period → result < period }
+{
+    (u128::from(period) * u128::from(part) / u128::from(whole)) as u64
 }
 
 /// The time at which the straight line from the height `from` at the sample `i` to the height `to` at the next one meets
@@ -68,9 +88,7 @@ fn meeting_time(period: u64, i: u32, from: i64, to: i64, level: i64) -> u64
     ensures most { result ≤ (i + 1) * period }
     ensures short { unsigned_abs (level -ℤ from) < unsigned_abs (to -ℤ from) → 0 < period → result < (i + 1) * period }
 {
-    let part = u128::from(level.abs_diff(from));
-    let whole = u128::from(to.abs_diff(from));
-    u64::from(i) * period + (u128::from(period) * part / whole) as u64
+    u64::from(i) * period + share(period, level.abs_diff(from), to.abs_diff(from))
 }
 
 /// The crossing left of the apex. One step for each sample from the start to before the apex, at most.
@@ -92,6 +110,8 @@ fn left_crossing<L: Ledger>(
     ensures before { IfSome result (λ t. t < apex * trace.now.period) }
     ensures counted { steps.new ≤ steps.old + (apex - start) }
 {
+    let samples = trace.len();
+    prove!(line.to < samples);
     let mut i = apex;
     let mut inner = level.top;
     while start < i {
@@ -125,6 +145,8 @@ fn right_crossing<L: Ledger>(
     ensures within { IfSome result (λ t. t ≤ end * trace.now.period) }
     ensures counted { steps.new ≤ steps.old + (end - apex) }
 {
+    let samples = trace.len();
+    prove!(line.to < samples);
     let mut inner = level.top;
     for i in apex + 1..end + 1 {
         let outer = scaled_height(i, line, trace, steps);
