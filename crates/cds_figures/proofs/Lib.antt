@@ -1,0 +1,4 @@
+pub mod NumberLaws
+pub mod PassingLaws
+pub mod SampleLaws
+pub mod CrossingLaws

@@ -1,0 +1,17 @@
+-- The height of a signal above a straight line, as a whole number: it is stated times the samples between the line's
+-- ends. This project's own rule.
+use Rattle.std.specs.Prelude.{ℕ, ◌-◌, ℤ, pos, ◌+ℤ◌, ◌-ℤ◌, ◌*ℤ◌}
+use Rattle.cds_base.specs.declared.peak.Line.{Line}
+use Rattle.cds_trace.specs.Signal.{Signal, sample_at}
+
+-- how many samples lie from one end of a line to the other
+abbrev pub span : Line → ℕ
+span line = line.to - line.from
+
+-- the level of a line at sample i, times its span: each end counts by the distance of i from the other end
+abbrev pub level_by_span : Line → ℕ → ℤ
+level_by_span line i = line.from_y *ℤ pos (line.to - i) +ℤ line.to_y *ℤ pos (i - line.from)
+
+-- the height at sample i, which is the signal minus the line, times the line's span
+abbrev pub height_by_span : Signal → Line → ℕ → ℤ
+height_by_span signal line i = sample_at signal i *ℤ pos (span line) -ℤ level_by_span line i

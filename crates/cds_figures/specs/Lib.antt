@@ -1,0 +1,4 @@
+pub mod Height
+pub mod Crossings
+pub mod Noise
+pub mod Figures

@@ -1,0 +1,35 @@
+-- The noise of a blank: the greatest minus the least of its samples in a window of time. This project's own rule.
+use Rattle.std.specs.Prelude.{ℕ, ◌*◌, ◌-ℤ◌, ◌&&◌, ◌==◌, Bool, ℤ, List, [], ◌∷◌, Option, Some, None, map, fold, length, nat_le, nat_lt, unsigned_abs, if◌then◌else◌}
+use Rattle.std.specs.Int.{int_min, int_max}
+use Rattle.std.specs.List.{range_with_len, filter}
+use Rattle.cds_trace.specs.Signal.{Signal, sample_at}
+use Rattle.cds_figures.specs.declared.blank.Extent.{Extent}
+
+-- the time, in microseconds, lies in the window from `from` up to and without `to`, in milliseconds
+abbrev pub is_in_window : ℕ → ℕ → ℕ → Bool
+is_in_window from to time = nat_le (1000 * from) time && nat_lt time (1000 * to)
+
+-- of the first `count` samples those whose time lies in the window
+abbrev pub samples_in : Signal → ℕ → ℕ → ℕ → List ℤ
+samples_in signal from to count =
+    map (sample_at signal) (filter (λ i. is_in_window from to (i * signal.period)) (range_with_len 0 count))
+
+-- the least and the greatest of these samples, if there is one
+abbrev pub extent_of : List ℤ → Option Extent
+extent_of [] = None
+extent_of (sample ∷ samples) = Some (record { least = fold int_min sample samples; greatest = fold int_max sample samples })
+
+-- how far the two are apart
+abbrev pub range_of : Option Extent → ℕ
+range_of None = 0
+range_of (Some extent) = unsigned_abs (extent.greatest -ℤ extent.least)
+
+-- the range of a list of samples, if it has two samples and they aren't all alike
+abbrev pub noise_of_samples : List ℤ → Option ℕ
+noise_of_samples samples =
+    let range = range_of (extent_of samples) in
+    if nat_lt (length samples) 2 then None else (if range == 0 then None else Some range)
+
+-- the noise of a signal in a window
+abbrev pub noise_of : Signal → ℕ → ℕ → Option ℕ
+noise_of signal from to = noise_of_samples (samples_in signal from to (length signal.samples))

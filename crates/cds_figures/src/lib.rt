@@ -1,0 +1,19 @@
+//! The figures of chromatographic peaks, as exact fractions, and what they are computed from: where the signal crosses a
+//! level of a peak's height, and the noise of a blank. After USP General Chapter 621, in this project's half-height form.
+//!
+//! Begin at [`crossings`] for the widths of a peak, and at [`resolution`] for the figures.
+#![tactic(auto)]
+
+mod blank;
+mod formulas;
+mod heights;
+mod widths;
+
+pub use blank::noise;
+pub use formulas::{
+    LONGEST_TIME_US, RATIO_LIMIT, peak_valley, plates, resolution, retention, signal_noise, tailing,
+};
+pub use widths::crossings;
+
+#[cfg(test)]
+mod tests;
