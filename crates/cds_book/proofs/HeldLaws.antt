@@ -41,7 +41,7 @@ counts-held a v name signal versions names new samples held view_is many are fre
     let length_held : names ≡ length t.traces = many ∙ a.traces.ok.0 ∙ sym (length-map a.traces.items traces_shown) in
     let fresh' : new ≡ new_name (signals_of t name) = fresh ∙ new_name-empty versions ∙ ap new_name are' in
     subst (λ s. (names + new, MOST_TRACE_NAMES) ∷ (length versions + 1, MOST_VERSIONS) ∷ (a.trace_versions + 1, MOST_TRACE_VERSIONS) ∷ (a.samples + samples, MOST_SAMPLES_IN_ALL) ∷ [] ≡ counts_of (change.Trace name signal) (applied s (change.Trace name signal))) same
-        (rw (length_held, fresh', are', held.trace_versions, held.samples, long) (sym (counts-trace t held.tables name signal)))
+    (rw (length_held, fresh', are', held.trace_versions, held.samples, long) (sym (counts-trace t held.tables name signal)))
 
 -- tables of equal lists are equal
 pub state_eq : (xs ys : List NamedTraces) (ms ns : List NamedMethod) → xs ≡ ys → ms ≡ ns → let s : TablesState = record { traces = xs; methods = ms } in let t : TablesState = record { traces = ys; methods = ns } in s ≡ t
@@ -168,7 +168,7 @@ draft_counts-held a v name text draft is_new methods new held view_is many is se
     let length_held : methods ≡ length t.methods = many ∙ a.methods.ok.0 ∙ sym (length-map a.methods.items method_shown) in
     let fresh' : new ≡ bool_byte (is_none (draft_of t name)) = fresh ∙ ap bool_byte (none_seen draft is_new seen) ∙ ap (λ o. bool_byte (is_none o)) (is ∙ ap (λ s. draft_of s name) (sym same)) in
     subst (λ s. (methods + new, MOST_METHODS) ∷ [] ≡ counts_of (change.Draft name text) (applied s (change.Draft name text))) same
-        (rw (length_held, fresh') (sym (counts-draft t held.tables name text)))
+    (rw (length_held, fresh') (sym (counts-draft t held.tables name text)))
 
 -- a draft that is there
 pub some_draft : {X : Type 0} (o : Option X) → IsSome o → (x : X) × (o ≡ Some x)
@@ -186,7 +186,7 @@ freeze_counts-held a v name version texts held view_is is_there are =
     let are' : texts ≡ texts_of t name = are ∙ ap (λ s. texts_of s name) (sym same) in
     let is' : draft_of t name ≡ Some draft = ap (λ s. draft_of s name) same ∙ is in
     subst (λ s. (length texts + 1, MOST_VERSIONS) ∷ (a.method_versions + 1, MOST_METHOD_VERSIONS) ∷ [] ≡ counts_of (change.Freeze name version) (applied s (change.Freeze name version))) same
-        (rw (are', held.method_versions) (sym (counts-freeze t held.tables name version draft is')))
+    (rw (are', held.method_versions) (sym (counts-freeze t held.tables name version draft is')))
 
 -- room for another draft, for a new method, and for one more version of a method
 pub room-draft : (a : Inside) (v : TablesValue) (name n : List ℕ) (at : ℕ) (x : Taken) → tables_held a ≡ v → IsHeld a → v.room ≡ Some (draft_room name) → Some x ≡ a.room → x ≡ Draft n at → IsMethodAt a.methods.items name at

@@ -63,9 +63,10 @@ module _ (entries : List TraceEntry) (at : ℕ) (r e : TraceEntry) (read : r ≡
   pub room_for_version : (name : List ℕ) → IsTraceAt entries name at → vec_len e.versions < vec_capacity e.versions →
       IsTraceAt (set entries at e) name at × HoldsAt (λ (x : TraceEntry). vec_len x.versions < vec_capacity x.versions) (set entries at e) at
   room_for_version name stands room =
-      let below : at < length entries = omega (arith, length-map entries traces_shown, stands.within) in
-      (subst (λ es. StandsAt (λ (x : NamedTraces). x.name) es name at) (sym same_traces) stands,
-       λ d. subst (λ (x : TraceEntry). vec_len x.versions < vec_capacity x.versions) (sym (get_or-set_same entries at e d below)) room)
+      let below : at < length entries = omega (arith, length-map entries traces_shown, stands.within) in (
+        subst (λ es. StandsAt (λ (x : NamedTraces). x.name) es name at) (sym same_traces) stands,
+        λ d. subst (λ (x : TraceEntry). vec_len x.versions < vec_capacity x.versions) (sym (get_or-set_same entries at e d below)) room,
+      )
 
 -- the tables with this entry at a place, and with this room
 abbrev pub with_trace_entry : Inside → ℕ → TraceEntry → Option Taken → Inside
@@ -125,9 +126,10 @@ module _ (entries : List MethodEntry) (at : ℕ) (r e : MethodEntry) (read : r �
   pub room_for_text : (name text : List ℕ) → IsMethodAt entries name at → e.draft ≡ text → vec_len e.versions < vec_capacity e.versions →
       IsMethodAt (set entries at e) name at × HoldsAt (λ (x : MethodEntry). (x.draft ≡ text) × (vec_len x.versions < vec_capacity x.versions)) (set entries at e) at
   room_for_text name text stands drafted room =
-      let below : at < length entries = omega (arith, length-map entries method_shown, stands.within) in
-      (subst (λ es. StandsAt (λ (x : NamedMethod). x.name) es name at) (sym same_methods) stands,
-       λ d. subst (λ (x : MethodEntry). (x.draft ≡ text) × (vec_len x.versions < vec_capacity x.versions)) (sym (get_or-set_same entries at e d below)) (drafted, room))
+      let below : at < length entries = omega (arith, length-map entries method_shown, stands.within) in (
+        subst (λ es. StandsAt (λ (x : NamedMethod). x.name) es name at) (sym same_methods) stands,
+        λ d. subst (λ (x : MethodEntry). (x.draft ≡ text) × (vec_len x.versions < vec_capacity x.versions)) (sym (get_or-set_same entries at e d below)) (drafted, room),
+      )
 
 -- the tables with this entry of a method at a place, and with this room
 abbrev pub with_method_entry : Inside → ℕ → MethodEntry → Option Taken → Inside

@@ -50,7 +50,7 @@ invariant_of-self c =
     let t = state_held c.self.inside in
     let draft = c.index_mut.result.now.draft in
     IsHeld-PutsMethod c.self.inside (with_version c) _ c.self.view_is c.args.name draft (texts_of t c.args.name ++ draft ∷ []) 1 (puts_frozen c) (change.Freeze c.args.name c.args.version) (applied-freeze t c.args.name c.args.version draft (shown_draft c)) c.self.invariant
-        (IsTables-freeze t c.args.name c.args.version c.self.invariant.tables (Accepts-held c.self.inside _ _ c.self.view_is c.requires.accepted))
+    (IsTables-freeze t c.args.name c.args.version c.self.invariant.tables (Accepts-held c.self.inside _ _ c.self.view_is c.requires.accepted))
 
 pub returns : goal.returns
 unfolding with_version

@@ -38,7 +38,7 @@ unfolding with_draft
 invariant_of-self c =
     let t = state_held c.self.inside in
     IsHeld-PutsMethod c.self.inside (with_draft c) _ c.self.view_is c.args.name c.args.text (texts_of t c.args.name) 0 (puts_there c) (change.Draft c.args.name c.args.text) (applied-draft t c.args.name c.args.text) c.self.invariant
-        (IsTables-draft t c.args.name c.args.text c.self.invariant.tables (Accepts-held c.self.inside _ _ c.self.view_is c.requires.accepted))
+    (IsTables-draft t c.args.name c.args.text c.self.invariant.tables (Accepts-held c.self.inside _ _ c.self.view_is c.requires.accepted))
 
 pub returns-in-Some-Draft : goal.returns-in-Some-Draft
 unfolding with_draft
@@ -70,7 +70,7 @@ unfolding with_new
 invariant_of-self-in-Some-Method c =
     let t = state_held c.self.inside in
     IsHeld-PutsMethod c.self.inside (with_new c) _ c.self.view_is c.args.name c.args.text (texts_of t c.args.name) 0 (puts_new c) (change.Draft c.args.name c.args.text) (applied-draft t c.args.name c.args.text) c.self.invariant
-        (IsTables-draft t c.args.name c.args.text c.self.invariant.tables (Accepts-held c.self.inside _ _ c.self.view_is c.requires.accepted))
+    (IsTables-draft t c.args.name c.args.text c.self.invariant.tables (Accepts-held c.self.inside _ _ c.self.view_is c.requires.accepted))
 
 pub returns-in-Some-Method : goal.returns-in-Some-Method
 unfolding with_new

@@ -36,7 +36,7 @@ invariant_of-self-2 c =
     let same = HoldsSame-method_entry c.self.inside c.in-Ok.at r e room c.index_mut.ensures.value refl refl c.reserve.ensures.items in
     let copied = c.from_vec.ensures ∙ c.in_ok-text.ensures.items ∙ c.as_slice.ensures in
     IsHeld-HoldsSame c.self.inside after same c.self.invariant
-        (HasRoom-freeze c.self.inside c.in-Ok.at r e room c.index_mut.ensures.value refl refl c.reserve.ensures.items c.deref.result.now c.args.name c.from_vec.result c.index.result.now c.deref.ensures.value c.in-Ok.ensures.found c.index.ensures copied c.in_ok-reserve.ensures.ok)
+    (HasRoom-freeze c.self.inside c.in-Ok.at r e room c.index_mut.ensures.value refl refl c.reserve.ensures.items c.deref.result.now c.args.name c.from_vec.result c.index.result.now c.deref.ensures.value c.in-Ok.ensures.found c.index.ensures copied c.in_ok-reserve.ensures.ok)
 
 pub returns-clause-state : goal.returns-clause-state
 returns-clause-state c =
