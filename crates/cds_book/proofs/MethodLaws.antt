@@ -145,13 +145,13 @@ IsTables-draft t name text kept accepts =
     let counts = counts_of (change.Draft name text) (applied t (change.Draft name text)) in
     let few : length after.methods ≤ MOST_METHODS = elim (cases_Bool (option_map_or (λ d. bytes_eq d text) (draft_of t name) false)) [
       | inl same ↦
-        let unchanged : planned t (command.Draft name text) ≡ Ok plan.Unchanged = planned-same_draft t name text text refl _ refl (sym same) in
-        let contrary : Ok plan.Unchanged ≡ Ok (plan.Change (change.Draft name text)) = sym unchanged ∙ accepts.accepted in
-        cc
+          let unchanged : planned t (command.Draft name text) ≡ Ok plan.Unchanged = planned-same_draft t name text text refl _ refl (sym same) in
+          let contrary : Ok plan.Unchanged ≡ Ok (plan.Change (change.Draft name text)) = sym unchanged ∙ accepts.accepted in
+          cc
       | inr other ↦
-        let judged = planned-other_draft t name text text refl (draft_of t name) refl counts _ (sym other) refl refl in
-        let within : AreWithin counts = AreWithin-none counts (unless_full-ok _ (change.Draft name text) (sym judged ∙ accepts.accepted)) in
-        subst (λ (s : TablesState). length s.methods ≤ MOST_METHODS) is within.0
+          let judged = planned-other_draft t name text text refl (draft_of t name) refl counts _ (sym other) refl refl in
+          let within : AreWithin counts = AreWithin-none counts (unless_full-ok _ (change.Draft name text) (sym judged ∙ accepts.accepted)) in
+          subst (λ (s : TablesState). length s.methods ≤ MOST_METHODS) is within.0
     ] in
     let kept_entry : IsMethodEntry entry = record {
       draft = accepts.command;
@@ -242,6 +242,7 @@ IsNewText-accepted t name version accepts = by_draft (draft_of t name) refl
           other = other;
           within = AreWithin-none counts (unless_full-ok _ (change.Freeze name version) (sym answer ∙ accepts.accepted));
         }
+
     by_draft : (found : Option (List ℕ)) → draft_of t name ≡ found → IsNewText t name version
     by_draft None is =
         let refused = planned-no_draft t name version (sym is) in
@@ -249,9 +250,9 @@ IsNewText-accepted t name version accepts = by_draft (draft_of t name) refl
         cc
     by_draft (Some draft) is = elim (cases_Bool (is_latest bytes_eq (texts_of t name) draft)) [
       | inl same ↦
-        let unchanged = planned-latest_text t name version draft (sym is) (texts_of t name) refl (sym same) in
-        let contrary : Ok plan.Unchanged ≡ Ok (plan.Change (change.Freeze name version)) = sym unchanged ∙ accepts.accepted in
-        cc
+          let unchanged = planned-latest_text t name version draft (sym is) (texts_of t name) refl (sym same) in
+          let contrary : Ok plan.Unchanged ≡ Ok (plan.Change (change.Freeze name version)) = sym unchanged ∙ accepts.accepted in
+          cc
       | inr other ↦ judged draft is other (cases_eq version (length (texts_of t name) + 1))
     ]
 
@@ -292,4 +293,4 @@ planned-freeze_again t name version again draft is =
     let texts = texts_of t name ++ draft ∷ [] in
     let after = with_method t name draft texts in
     rw (applied-freeze t name version draft is)
-        (planned-latest_text after name again draft (sym (draft_of-with t name draft texts)) texts (sym (texts_of-with t name draft texts)) (sym (is_latest-push bytes_eq bytes_eq-Decides (texts_of t name) draft)))
+    (planned-latest_text after name again draft (sym (draft_of-with t name draft texts)) texts (sym (texts_of-with t name draft texts)) (sym (is_latest-push bytes_eq bytes_eq-Decides (texts_of t name) draft)))

@@ -93,10 +93,11 @@ AreRising-middle [] name back front_rises back_rises below above = (recursion_fr
 AreRising-middle (n ∷ front) name back front_rises back_rises below above =
     let first : byte_cmp n name ≡ Less = All-head (λ m. byte_cmp m name ≡ Less) n front below in
     let behind : All (λ m. byte_cmp n m ≡ Less) (front ++ name ∷ back) = All-append (λ m. byte_cmp n m ≡ Less) front (name ∷ back)
-        (All-after_first byte_cmp n front front_rises)
-        (All-cons (λ m. byte_cmp n m ≡ Less) name back first (All-weaker (λ m. byte_cmp name m ≡ Less) (λ m. byte_cmp n m ≡ Less) (λ m h. nat_list_cmp_total.trans n name m first h) back above)) in
-    (recursion_from_All (λ m. byte_cmp n m ≡ Less) (front ++ name ∷ back) behind,
-     AreRising-middle front name back (sorted_tail byte_cmp n front front_rises) back_rises (All-tail (λ m. byte_cmp m name ≡ Less) n front below) above)
+    (All-after_first byte_cmp n front front_rises)
+    (All-cons (λ m. byte_cmp n m ≡ Less) name back first (All-weaker (λ m. byte_cmp name m ≡ Less) (λ m. byte_cmp n m ≡ Less) (λ m h. nat_list_cmp_total.trans n name m first h) back above)) in (
+      recursion_from_All (λ m. byte_cmp n m ≡ Less) (front ++ name ∷ back) behind,
+      AreRising-middle front name back (sorted_tail byte_cmp n front front_rises) back_rises (All-tail (λ m. byte_cmp m name ≡ Less) n front below) above,
+    )
 
 -- what passes a test of the order
 is_lt-less : (o : Ordering) → is_lt o ≡ true → o ≡ Less
@@ -168,11 +169,11 @@ module _ {E : Type 0} (name_of : E → List ℕ) where
       let parts : entries ≡ front ++ old ∷ back = parts_at entries at entry stands.within in
       let parts' : entries ≡ (front ++ old ∷ []) ++ back = parts ∙ sym (append_assoc front (old ∷ []) back) in
       let lesser : filter lt entries ≡ front = ap (filter lt) parts ∙ filter-front lt front (old ∷ back)
-          (passes_lt name front stands.lesser)
-          (All-cons (λ e. lt e ≡ false) old back (ap is_lt tied) (fails_lt name back stands.greater)) in
+      (passes_lt name front stands.lesser)
+      (All-cons (λ e. lt e ≡ false) old back (ap is_lt tied) (fails_lt name back stands.greater)) in
       let greater : filter gt entries ≡ back = ap (filter gt) parts' ∙ filter-back gt (front ++ old ∷ []) back
-          (All-append (λ e. gt e ≡ false) front (old ∷ []) (fails_gt name front stands.lesser) (All-cons (λ e. gt e ≡ false) old [] (ap is_gt tied) (All-nil (λ e. gt e ≡ false))))
-          (passes_gt name back stands.greater) in
+      (All-append (λ e. gt e ≡ false) front (old ∷ []) (fails_gt name front stands.lesser) (All-cons (λ e. gt e ≡ false) old [] (ap is_gt tied) (All-nil (λ e. gt e ≡ false))))
+      (passes_gt name back stands.greater) in
       ap₂ (λ xs ys. xs ++ entry ∷ ys) lesser greater ∙ sym (set_parts entries at entry stands.within)
 
   -- the entry that stands at the place of a name is that of the name
@@ -192,7 +193,7 @@ module _ {E : Type 0} (name_of : E → List ℕ) where
   named-gap entries name at gap =
       let test = λ (e : E). bytes_eq (name_of e) name in
       find-none test entries (subst (All (λ e. test e ≡ false)) (take-append-drop at entries)
-          (All-append (λ e. test e ≡ false) (take at entries) (drop at entries) (other_less name _ gap.lesser) (other_greater name _ gap.greater)))
+      (All-append (λ e. test e ≡ false) (take at entries) (drop at entries) (other_less name _ gap.lesser) (other_greater name _ gap.greater)))
 
   -- an entry that was placed is that of its name
   pub named-placed : (entries : List E) (entry : E) → named name_of (placed name_of entries entry) (name_of entry) ≡ Some entry
@@ -236,12 +237,12 @@ module _ {E : Type 0} (name_of : E → List ℕ) where
       let front = filter (λ e. lt (name_of e)) entries in
       let back = filter (λ e. gt (name_of e)) entries in
       let shape : map name_of (front ++ entry ∷ back) ≡ filter lt names ++ name ∷ filter gt names =
-          map-append name_of front (entry ∷ back) ∙ ap₂ (λ xs ys. xs ++ name ∷ ys) (map-filter lt name_of entries) (map-filter gt name_of entries) in
+      map-append name_of front (entry ∷ back) ∙ ap₂ (λ xs ys. xs ++ name ∷ ys) (map-filter lt name_of entries) (map-filter gt name_of entries) in
       let middle : AreRising (filter lt names ++ name ∷ filter gt names) = AreRising-middle (filter lt names) name (filter gt names)
-          (IsStrictlySortedBy-filter byte_cmp lt names rising)
-          (IsStrictlySortedBy-filter byte_cmp gt names rising)
-          (All-weaker (λ n. lt n ≡ true) (λ n. byte_cmp n name ≡ Less) (λ n h. is_lt-less (byte_cmp n name) h) (filter lt names) (filter_passes lt names))
-          (All-weaker (λ n. gt n ≡ true) (λ n. byte_cmp name n ≡ Less) (λ n h. byte_cmp-forth n name (is_gt-greater (byte_cmp n name) h)) (filter gt names) (filter_passes gt names)) in
+      (IsStrictlySortedBy-filter byte_cmp lt names rising)
+      (IsStrictlySortedBy-filter byte_cmp gt names rising)
+      (All-weaker (λ n. lt n ≡ true) (λ n. byte_cmp n name ≡ Less) (λ n h. is_lt-less (byte_cmp n name) h) (filter lt names) (filter_passes lt names))
+      (All-weaker (λ n. gt n ≡ true) (λ n. byte_cmp name n ≡ Less) (λ n h. byte_cmp-forth n name (is_gt-greater (byte_cmp n name) h)) (filter gt names) (filter_passes gt names)) in
       subst AreRising (sym shape) middle
 
   -- a place behind an entry of a lesser name
@@ -273,23 +274,28 @@ module _ {E : Type 0} (name_of : E → List ℕ) where
       behind : byte_cmp (name_of e) name ≡ Less → (at : ℕ) × (StandsAt name_of es name at ⊎ IsGapAt name_of es name at) → (at : ℕ) × (StandsAt name_of (e ∷ es) name at ⊎ IsGapAt name_of (e ∷ es) name at)
       behind less (at, inl stands) = (suc at, inl (StandsAt-behind e es name at less stands))
       behind less (at, inr gap) = (suc at, inr (IsGapAt-behind e es name at less gap))
+
       by_order : (o : Ordering) → byte_cmp (name_of e) name ≡ o → (at : ℕ) × (StandsAt name_of es name at ⊎ IsGapAt name_of es name at) → (at : ℕ) × (StandsAt name_of (e ∷ es) name at ⊎ IsGapAt name_of (e ∷ es) name at)
       by_order Less less rest = behind less rest
       by_order Equal tied rest =
-          let same : name_of e ≡ name = byte_cmp-equal (name_of e) name tied in
-          (0, inl (record {
-            within = omega arith;
-            here = λ d. same;
-            lesser = All-nil (λ x. byte_cmp (name_of x) name ≡ Less);
-            greater = all_greater e es name rising (λ n h. byte_cmp-back name n (subst (λ m. byte_cmp m n ≡ Less) same h));
-          }))
-      by_order Greater greater rest =
-          (0, inr (record {
-            within = omega arith;
-            lesser = All-nil (λ x. byte_cmp (name_of x) name ≡ Less);
-            greater = All-cons (λ x. byte_cmp (name_of x) name ≡ Greater) e es greater
-                (all_greater e es name rising (λ n h. byte_cmp-back name n (nat_list_cmp_total.trans name (name_of e) n (byte_cmp-forth (name_of e) name greater) h)));
-          }))
+          let same : name_of e ≡ name = byte_cmp-equal (name_of e) name tied in (
+            0,
+            inl (record {
+              within = omega arith;
+              here = λ d. same;
+              lesser = All-nil (λ x. byte_cmp (name_of x) name ≡ Less);
+              greater = all_greater e es name rising (λ n h. byte_cmp-back name n (subst (λ m. byte_cmp m n ≡ Less) same h));
+            }),
+          )
+      by_order Greater greater rest = (
+        0,
+        inr (record {
+          within = omega arith;
+          lesser = All-nil (λ x. byte_cmp (name_of x) name ≡ Less);
+          greater = All-cons (λ x. byte_cmp (name_of x) name ≡ Greater) e es greater
+              (all_greater e es name rising (λ n h. byte_cmp-back name n (nat_list_cmp_total.trans name (name_of e) n (byte_cmp-forth (name_of e) name greater) h)));
+        }),
+      )
 
   -- how a sum over the entries changes when one is placed
   pub sum_by-placed : (f : E → ℕ) (entries : List E) (entry : E) → AreRising (map name_of entries) → sum_by f (placed name_of entries entry) + option_map_or f (named name_of entries (name_of entry)) 0 ≡ sum_by f entries + f entry
@@ -329,7 +335,7 @@ module _ {E : Type 0} (name_of : E → List ℕ) where
       let within : k - at < length (drop at entries) = omega (arith, length-drop at entries) in
       let same : at + (k - at) ≡ k = omega arith in
       subst (λ n. byte_cmp (name_of (get_or entries n d)) name ≡ Greater) same
-          (subst (λ e. byte_cmp (name_of e) name ≡ Greater) (get_or-drop at entries (k - at) d) (greater (k - at) d within))
+      (subst (λ e. byte_cmp (name_of e) name ≡ Greater) (get_or-drop at entries (k - at) d) (greater (k - at) d within))
 
   -- the entry of a name stands at no place but its own
   StandsAt-found : (entries : List E) (name : List ℕ) (k : ℕ) (d : E) → AreRising (map name_of entries) → k < length entries → byte_cmp (name_of (get_or entries k d)) name ≡ Equal → StandsAt name_of entries name k
@@ -353,17 +359,19 @@ module _ {E : Type 0} (name_of : E → List ℕ) where
   searched [] name rising (Ok at) within equal = absurd (omega arith)
   searched (e ∷ es) name rising (Ok at) within equal = (StandsAt-found (e ∷ es) name at e rising within (equal e), tt)
   searched entries name rising (Err at) within parted =
-      let parts = parted (searchable_from_sorted nat_list_cmp_total name_of entries name (sorted_names entries rising)) in
-      (tt, record {
-        within = within;
-        lesser = λ k d below.
-            let front : length (take at entries) ≡ at = length-take-le at entries within in
-            let before : k < at = omega arith in
-            subst (λ x. byte_cmp (name_of x) name ≡ Less) (sym (get_or-take at entries k d before)) (parts.0 k d (omega arith) before);
-        greater = λ k d below.
-            let behind : at + k < length entries = omega (arith, length-drop at entries) in
-            subst (λ x. byte_cmp (name_of x) name ≡ Greater) (sym (get_or-drop at entries k d)) (parts.1 (at + k) d (omega arith) behind);
-      })
+      let parts = parted (searchable_from_sorted nat_list_cmp_total name_of entries name (sorted_names entries rising)) in (
+        tt,
+        record {
+          within = within;
+          lesser = λ k d below.
+              let front : length (take at entries) ≡ at = length-take-le at entries within in
+              let before : k < at = omega arith in
+              subst (λ x. byte_cmp (name_of x) name ≡ Less) (sym (get_or-take at entries k d before)) (parts.0 k d (omega arith) before);
+          greater = λ k d below.
+              let behind : at + k < length entries = omega (arith, length-drop at entries) in
+              subst (λ x. byte_cmp (name_of x) name ≡ Greater) (sym (get_or-drop at entries k d)) (parts.1 (at + k) d (omega arith) behind);
+        },
+      )
 
 -- what holds at a place of a list holds there of what is shown of it
 HoldsAt-map : {X Y : Type 0} (P : Y → Type 0) (f : X → Y) (xs : List X) (at : ℕ) → at < length xs → HoldsAt (λ x. P (f x)) xs at → HoldsAt P (map f xs) at
