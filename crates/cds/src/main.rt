@@ -5,7 +5,8 @@ mod devices;
 
 ghost use Rattle.std.specs.Prelude.{◌≡◌, ◌<◌};
 
-use cds_base::{Sink, Source, Steps};
+use cds_base::{Clock, Door, FixedClock, MemDoor, Sink, Source, Steps};
+use cds_keep::{Keeper, MapKeeper};
 use devices::{ReaderSource, WriterSink};
 use std::alloc::Global;
 use std::marker::Brand;
@@ -23,23 +24,49 @@ fn main(rt: HostRuntime) -> ExitCode {
     let Ok(words) = words else {
         return ExitCode::from(cds_desk::NO_MEMORY);
     };
+    ExitCode::from(over_devices(&rt, &words))
+}
+
+/// The top call over the real standard input and output. The store, the clock and the door are those in memory until
+/// their real ones come: the store holds nothing, and no command asks the clock or opens the door yet.
+fn over_devices(rt: &HostRuntime, words: &[String]) -> u8 {
+    let alloc = rt.alloc();
+    let (Ok(mut keeper), Ok(mut clock), Ok(mut door)) = (
+        MapKeeper::new(alloc, &[]),
+        FixedClock::new(alloc, &[], 0),
+        MemDoor::new(alloc, &[]),
+    ) else {
+        return cds_desk::NO_MEMORY;
+    };
     let mut source = ReaderSource::new(rt.stdin());
     let mut sink = WriterSink::new(rt.stdout());
-    ExitCode::from(run::<_, _, Brand>(Blank::new(1), rt.alloc(), &words, &mut source, &mut sink))
+    run::<_, _, _, _, _, Brand>(
+        Blank::new(1),
+        alloc,
+        words,
+        &mut source,
+        &mut sink,
+        &mut keeper,
+        &mut clock,
+        &mut door,
+    )
 }
 
 /// The top call, with a counter of steps of its own.
-fn run<S: Source, W: Sink, L: Ledger>(
+fn run<S: Source, W: Sink, K: Keeper, C: Clock, D: Door, L: Ledger>(
     blank: Blank,
     alloc: Global,
     words: &[String],
     source: &mut S,
     sink: &mut W,
+    keeper: &mut K,
+    clock: &mut C,
+    door: &mut D,
 ) -> u8
     requires name { blank.name ≡ L.name }
     requires parts { blank.parts ≡ L.parts }
     requires some { 0 < blank.parts }
 {
     let mut steps = Steps::<L>::new(blank);
-    cds_desk::run(alloc, words, source, sink, &mut steps)
+    cds_desk::run(alloc, words, source, sink, keeper, clock, door, &mut steps)
 }

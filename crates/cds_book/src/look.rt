@@ -1,8 +1,9 @@
 //! What the tables hold. Each look-up is None exactly where the thing isn't there, and takes no memory.
-ghost use Rattle.std.specs.Prelude.{◌≡◌, option_copied};
+ghost use Rattle.std.specs.Prelude.{◌≡◌, ◌≤◌, option_copied, IfSome};
 ghost use Rattle.cds_book.specs.Kept.{IsTables};
 ghost use Rattle.cds_book.specs.Tables.{trace_of, trace_versions_of, signals_of, draft_of, method_of, method_versions_of, texts_of};
 
+use crate::limits::MOST_VERSIONS;
 use crate::entry::{method_place, numbered, trace_place};
 use crate::tables::Tables;
 use cds_base::{Bytes, Name};
@@ -22,6 +23,7 @@ impl Tables {
     /// How many versions a trace name has, at least 1, which is the number of its latest version.
     pub fn trace_versions(&self, name: Name) -> Option<u32>
         ensures value { result ≡ trace_versions_of self.now.state name }
+        ensures few { IfSome result (λ count. count ≤ MOST_VERSIONS) }
         ensures tables { IsTables self.now.state }
     {
         let Ok(at) = trace_place(&self.traces, name) else {
@@ -67,6 +69,7 @@ impl Tables {
     /// How many versions a method has, which is the number of its latest version, or 0.
     pub fn method_versions(&self, name: Name) -> Option<u32>
         ensures value { result ≡ method_versions_of self.now.state name }
+        ensures few { IfSome result (λ count. count ≤ MOST_VERSIONS) }
         ensures tables { IsTables self.now.state }
     {
         let Ok(at) = method_place(&self.methods, name) else {

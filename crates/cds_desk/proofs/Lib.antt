@@ -1,3 +1,9 @@
 pub mod SendingLaws
 pub mod Numbers
 pub mod ReceivingLaws
+pub mod ServingLaws
+pub mod ToldItems
+pub mod RefusalTexts
+pub mod TurnLaws
+pub mod Commands
+pub mod RepeatLaws

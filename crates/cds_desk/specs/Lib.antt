@@ -3,3 +3,12 @@ pub mod Receiving
 pub mod Sending
 pub mod Words
 pub mod Run
+pub mod Routes
+pub mod Response
+pub mod Step
+pub mod Service
+pub mod Serving
+pub mod Opening
+pub mod Turn
+pub mod Session
+pub mod Repeat

@@ -25,6 +25,10 @@ OfAnswer words bytes P = IfSome (options_of words) (λ options. OfBytes options 
 abbrev pub usage_line : List ℕ
 usage_line = codes "usage: cds peaks|session|serve|demo\n"
 
--- 0 done, 1 refused, 2 no command, 3 the source failed, 4 the sink failed, 6 no memory
+-- 0 done, 1 refused, 2 no command, 3 the source failed, 4 the sink failed, 5 the keeper failed, 6 no memory, 8 damaged
 abbrev pub IsStatus : ℕ → Type 0
-IsStatus status = IsTrue (list_any (λ s. s == status) (0 ∷ 1 ∷ 2 ∷ 3 ∷ 4 ∷ 6 ∷ []))
+IsStatus status = IsTrue (list_any (λ s. s == status) (0 ∷ 1 ∷ 2 ∷ 3 ∷ 4 ∷ 5 ∷ 6 ∷ 8 ∷ []))
+
+-- a session ended before anything was served: the keeper failed, memory was wanting, or the store is damaged
+abbrev pub EndsUnserved : ℕ → Type 0
+EndsUnserved status = IsTrue (list_any (λ s. s == status) (5 ∷ 6 ∷ 8 ∷ []))

@@ -1,10 +1,13 @@
 -- The words of the command line: which lists of words are a command, and what they set.
-use Rattle.std.specs.Prelude.{◌≡◌, ℕ, ◌^◌, ◌&&◌, ◌==◌, Bool, List, [], length, codes, slice_index_or, Option, Some, None, nat_le, nat_lt, if◌then◌else◌}
+use Rattle.std.specs.Prelude.{◌≡◌, true, false, ⊤, ℕ, ◌^◌, ◌&&◌, ◌==◌, Bool, List, [], length, codes, slice_index_or, Option, Some, None, nat_le, nat_lt, if◌then◌else◌}
 use Rattle.std.specs.Char.{is_ascii_digit}
 use Rattle.std.specs.List.{list_all}
 use Rattle.std.specs.Str.{bytes_eq}
 use Rattle.std.specs.Str.Parse.{digits_value}
 use Rattle.cds_rules.specs.declared.limits.TheConstants.{MOST_BUNCH, MOST_SLOPE, MOST_PLATEAU}
+use Rattle.cds_rules.specs.Ranges.{SlopeRanges}
+use Rattle.cds_desk.specs.declared.words.CommandLine.{CommandLine}
+use Rattle.cds_desk.specs.declared.words.CommandLine.TheVariants.{Peaks, Session}
 use Rattle.cds_desk.specs.declared.words.PeaksOptions.{PeaksOptions}
 
 -- 1 to 20 decimal digits, and nothing else
@@ -53,3 +56,18 @@ options_of words =
     if are_peaks_words words
     then options_from (number_in 1 MOST_BUNCH (word_at words 2)) (number_in 1 MOST_SLOPE (word_at words 4)) (number_in 1 MOST_SLOPE (word_at words 6)) (number_in 0 MOST_PLATEAU (word_at words 8))
     else None
+
+-- the words are `session` alone
+abbrev pub is_session : List (List ℕ) → Bool
+is_session words = (length words == 1) && bytes_eq (word_at words 0) (codes "session")
+
+-- the words state this command, or none
+abbrev pub States : List (List ℕ) → Option CommandLine → Type 0
+States words None = (is_session words ≡ false) × (options_of words ≡ None)
+States words (Some (Peaks options)) = (is_session words ≡ false) × (options_of words ≡ Some options)
+States words (Some Session) = (is_session words ≡ true) × (options_of words ≡ None)
+
+-- the options of a command lie in their ranges
+abbrev pub HasRanges : CommandLine → Type 0
+HasRanges (Peaks o) = SlopeRanges o.bunch o.slope_on o.slope_off o.plateau
+HasRanges Session = ⊤

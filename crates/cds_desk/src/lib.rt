@@ -2,14 +2,28 @@
 #![tactic(auto)]
 
 mod answer;
+mod desk;
+mod judge;
+mod laws;
 mod receiving;
+mod refusing;
+mod reply;
+mod response;
+mod routes;
 mod sending;
+mod serving;
+mod session;
+mod target;
 mod top;
+mod turn;
 mod words;
 
 pub use answer::{DONE, REFUSED, TOO_MANY_BYTES};
+pub use desk::{Desk, OpenError};
+pub use laws::repeated_request_changes_nothing;
 pub use receiving::MOST_SOURCE_BYTES;
-pub use top::{NO_COMMAND, NO_MEMORY, SINK_FAILED, SOURCE_FAILED, run};
+pub use serving::Ended;
+pub use top::{DAMAGED, KEEPER_FAILED, NO_COMMAND, NO_MEMORY, SINK_FAILED, SOURCE_FAILED, run};
 
 #[cfg(test)]
 mod tests;

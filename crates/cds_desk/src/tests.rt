@@ -1,26 +1,30 @@
 ghost use Rattle.std.specs.Prelude.{◌≡◌, ◌<◌};
 
 use crate::run;
-use cds_base::{MemSink, MemSource, Sink, Source, Steps};
+use cds_base::{Clock, Door, FixedClock, MemDoor, MemSink, MemSource, Sink, Source, Steps};
+use cds_keep::{Keeper, MapKeeper};
 use std::alloc::Global;
 use std::marker::Brand;
 use std::sync::ledger::{Blank, Ledger};
 use std::test::Fail;
 
 // The top call, with a counter of steps of its own.
-fn counted<S: Source, W: Sink, L: Ledger>(
+fn counted<S: Source, W: Sink, K: Keeper, C: Clock, D: Door, L: Ledger>(
     blank: Blank,
     alloc: Global,
     words: &[String],
     source: &mut S,
     sink: &mut W,
+    keeper: &mut K,
+    clock: &mut C,
+    door: &mut D,
 ) -> u8
     requires name { blank.name ≡ L.name }
     requires parts { blank.parts ≡ L.parts }
     requires some { 0 < blank.parts }
 {
     let mut steps = Steps::<L>::new(blank);
-    run(alloc, words, source, sink, &mut steps)
+    run(alloc, words, source, sink, keeper, clock, door, &mut steps)
 }
 
 // The status and what the sink holds, where a read gives at most a piece and the calls of these numbers fail.
@@ -32,16 +36,33 @@ fn outcome(
     failing_reads: &[u64],
     failing_writes: &[u64],
 ) -> Result<(u8, Vec<u8>), Fail> {
+    let mut keeper = MapKeeper::new(alloc, &[])?;
     let mut source = MemSource::new(alloc, bytes, piece.max(1), failing_reads)?;
     let mut sink = MemSink::new(alloc, 9, failing_writes)?;
-    let status = counted::<MemSource, MemSink, Brand>(
+    let status = over(alloc, words, &mut source, &mut sink, &mut keeper)?;
+    Ok((status, Vec::from_slice(alloc, sink.written())?))
+}
+
+// The status of the top call over these devices, a clock at 0 and a door without connections.
+fn over(
+    alloc: Global,
+    words: &[String],
+    source: &mut MemSource,
+    sink: &mut MemSink,
+    keeper: &mut MapKeeper,
+) -> Result<u8, Fail> {
+    let mut clock = FixedClock::new(alloc, &[], 0)?;
+    let mut door = MemDoor::new(alloc, &[])?;
+    Ok(counted::<MemSource, MemSink, MapKeeper, FixedClock, MemDoor, Brand>(
         Blank::new(1),
         alloc,
         words,
-        &mut source,
-        &mut sink,
-    );
-    Ok((status, Vec::from_slice(alloc, sink.written())?))
+        source,
+        sink,
+        keeper,
+        &mut clock,
+        &mut door,
+    ))
 }
 
 fn words_of(alloc: Global, line: &str) -> Result<Vec<String>, Fail> {
@@ -203,6 +224,9 @@ fn words_are_a_command_or_none(rt: HostRuntime) -> Result<(), Fail> {
         ("peaks --bunch 1 --on 1000000001 --off 5 --plateau 3", 2),
         ("peaks --bunch 1 --on 5 --off 1000000001 --plateau 3", 2),
         ("peaks --bunch 1 --on 5 --off 5 --plateau 0", 1),
+        ("session", 0),
+        ("session session", 2),
+        ("sessions", 2),
         ("peaks --bunch 1 --on 5 --off 5 --plateau 1001", 2),
         ("peaks --bunch +1 --on 5 --off 5 --plateau 3", 2),
         (
@@ -220,4 +244,161 @@ fn words_are_a_command_or_none(rt: HostRuntime) -> Result<(), Fail> {
         assert_eq!(rt; found, status, "{line}");
     }
     Ok(())
+}
+
+// ---- the session
+
+const FLAT: &str = "PUT /traces/flat HTTP/1.1\r\nContent-Length: 29\r\n\r\ntime_us,signal\n0,7\n1000000,7\n";
+const MADE: &str = "HTTP/1.1 201 Created\r\nContent-Type: application/json\r\nContent-Length: 43\r\n\r\n{\"samples\":2,\"unchanged\":false,\"version\":1}";
+const SAME: &str = "HTTP/1.1 200 OK\r\nContent-Type: application/json\r\nContent-Length: 42\r\n\r\n{\"samples\":2,\"unchanged\":true,\"version\":1}";
+const TEXT: &str = "HTTP/1.1 200 OK\r\nContent-Type: text/csv\r\nContent-Length: 29\r\n\r\ntime_us,signal\n0,7\n1000000,7\n";
+
+// The status and the responses of a session over a store that holds nothing, where the keeper's calls of these
+// numbers fail; its load is the first.
+fn session(
+    alloc: Global,
+    bytes: &[u8],
+    piece: usize,
+    failing: &[u64],
+) -> Result<(u8, Vec<u8>), Fail> {
+    let words = words_of(alloc, "session")?;
+    let mut keeper = MapKeeper::new(alloc, failing)?;
+    let mut source = MemSource::new(alloc, bytes, piece.max(1), &[])?;
+    let mut sink = MemSink::new(alloc, 4096, &[])?;
+    let status = over(alloc, &words, &mut source, &mut sink, &mut keeper)?;
+    Ok((status, Vec::from_slice(alloc, sink.written())?))
+}
+
+#[test]
+fn a_trace_is_put_and_read_however_the_stream_is_cut(rt: HostRuntime) -> Result<(), Fail> {
+    let expect = "PUT /traces/flat HTTP/1.1\r\nHost: localhost\r\nUser-Agent: lab\r\nAccept: */*\r\nExpect: 100-continue\r\nContent-Length: 29\r\n\r\ntime_us,signal\n0,7\n1000000,7\n";
+    let rows = [
+        (String::from_str(rt.alloc(), FLAT)?, String::from_str(rt.alloc(), MADE)?),
+        (format!(in rt.alloc(); "{FLAT}{FLAT}")?, format!(in rt.alloc(); "{MADE}{SAME}")?),
+        (String::from_str(rt.alloc(), expect)?, format!(in rt.alloc(); "HTTP/1.1 100 Continue\r\n\r\n{MADE}")?),
+        (
+            format!(in rt.alloc(); "\r\n{FLAT}\nGET /traces/flat/1?x=1 HTTP/1.1\r\n\r\n\n")?,
+            format!(in rt.alloc(); "{MADE}{TEXT}")?,
+        ),
+    ];
+    for (bytes, responses) in rows {
+        let mut piece = bytes.len();
+        while 0 < piece {
+            let (status, written) = session(rt.alloc(), bytes.as_bytes(), piece, &[])?;
+            assert_eq!(rt; written.as_slice(), responses.as_bytes());
+            assert_eq!(rt; status, 0);
+            piece -= 1;
+        }
+    }
+    Ok(())
+}
+
+// A response with a refusal in JSON.
+fn refusal(alloc: Global, status: &str, fields: &str, body: &str) -> Result<String, Fail> {
+    let count = body.len();
+    Ok(format!(in alloc; "HTTP/1.1 {status}\r\nContent-Type: application/json\r\nContent-Length: {count}\r\n{fields}\r\n{body}")?)
+}
+
+#[test]
+fn refusals_are_answered_in_their_order(rt: HostRuntime) -> Result<(), Fail> {
+    let rows = [
+        ("GET /none HTTP/1.1\r\n\r\n", "404 Not Found", "", "{\"error\":\"route\",\"number\":0,\"value\":\"\"}"),
+        ("GET /traces/flat/01 HTTP/1.1\r\n\r\n", "404 Not Found", "", "{\"error\":\"route\",\"number\":0,\"value\":\"\"}"),
+        ("GET /traces/a%20b/1 HTTP/1.1\r\n\r\n", "404 Not Found", "", "{\"error\":\"route\",\"number\":0,\"value\":\"\"}"),
+        ("GET /traces/flat/ HTTP/1.1\r\n\r\n", "404 Not Found", "", "{\"error\":\"route\",\"number\":0,\"value\":\"\"}"),
+        ("POST /traces/flat HTTP/1.1\r\n\r\n", "405 Method Not Allowed", "Allow: PUT\r\n", "{\"error\":\"method\",\"number\":0,\"value\":\"PUT\"}"),
+        ("PUT /traces/flat/1 HTTP/1.1\r\n\r\n", "405 Method Not Allowed", "Allow: GET\r\n", "{\"error\":\"method\",\"number\":0,\"value\":\"GET\"}"),
+        ("GET /traces/flat/4294967295 HTTP/1.1\r\n\r\n", "404 Not Found", "", "{\"error\":\"absent\",\"number\":1,\"value\":\"flat\"}"),
+        ("GET /traces/flat/4294967296 HTTP/1.1\r\n\r\n", "404 Not Found", "", "{\"error\":\"route\",\"number\":0,\"value\":\"\"}"),
+        ("PUT /traces/flat HTTP/1.1\r\nContent-Length: 19\r\n\r\ntime_us,signal\n0,1\n", "400 Bad Request", "", "{\"error\":\"csv\",\"number\":5,\"value\":0}"),
+        ("PUT /traces/flat HTTP/1.1\r\nContent-Length: 26\r\n\r\ntime_us,signal\n0,1\n1000,x\n", "400 Bad Request", "", "{\"error\":\"csv\",\"number\":3,\"value\":3}"),
+        ("GET /none HTTP/1.0\r\n\r\n", "404 Not Found", "Connection: close\r\n", "{\"error\":\"route\",\"number\":0,\"value\":\"\"}"),
+    ];
+    for (request, status, fields, body) in rows {
+        let (ended, written) = session(rt.alloc(), request.as_bytes(), 7, &[])?;
+        let wanted = refusal(rt.alloc(), status, fields, body)?;
+        assert_eq!(rt; written.as_slice(), wanted.as_bytes(), "{request}");
+        assert_eq!(rt; ended, 0);
+    }
+    let after = format!(in rt.alloc(); "{FLAT}GET /traces/flat/2 HTTP/1.1\r\n\r\n")?;
+    let (_, written) = session(rt.alloc(), after.as_bytes(), 9, &[])?;
+    let absent = refusal(rt.alloc(), "404 Not Found", "", "{\"error\":\"absent\",\"number\":3,\"value\":2}")?;
+    assert!(rt; written.as_slice().ends_with(absent.as_bytes()));
+    Ok(())
+}
+
+#[test]
+fn a_head_request_keeps_the_length_and_leaves_the_body_out(rt: HostRuntime) -> Result<(), Fail> {
+    let (status, written) = session(rt.alloc(), b"HEAD /traces/flat/1 HTTP/1.1\r\nConnection: close\r\n\r\nGET", 5, &[])?;
+    assert_eq!(rt; status, 0);
+    assert_eq!(rt; written.as_slice(), b"HTTP/1.1 405 Method Not Allowed\r\nContent-Type: application/json\r\nContent-Length: 43\r\nAllow: GET\r\nConnection: close\r\n\r\n".as_slice());
+    Ok(())
+}
+
+#[test]
+fn a_fault_of_the_stream_is_the_last_response(rt: HostRuntime) -> Result<(), Fail> {
+    let cut = &FLAT.as_bytes()[..FLAT.len() - 1];
+    let rows: [(&[u8], &str, &str); 4] = [
+        (cut, "400 Bad Request", "{\"error\":\"truncated\",\"number\":0,\"value\":0}"),
+        (b"PUT /traces/flat HTTP/1.1\r\nTransfer-Encoding: chunked\r\n\r\n", "411 Length Required", "{\"error\":\"length\",\"number\":0,\"value\":0}"),
+        (b"PUT /traces/flat HTTP/1.1\r\nContent-Length: 4194305\r\n\r\n", "413 Content Too Large", "{\"error\":\"body\",\"number\":0,\"value\":4194304}"),
+        (b"no head\r\n\r\n", "400 Bad Request", "{\"error\":\"head\",\"number\":0,\"value\":0}"),
+    ];
+    for (bytes, status, body) in rows {
+        let (ended, written) = session(rt.alloc(), bytes, 11, &[])?;
+        let wanted = refusal(rt.alloc(), status, "Connection: close\r\n", body)?;
+        assert_eq!(rt; written.as_slice(), wanted.as_bytes());
+        assert_eq!(rt; ended, 1);
+    }
+    let second = format!(in rt.alloc(); "{FLAT}GET")?;
+    let (ended, written) = session(rt.alloc(), second.as_bytes(), 11, &[])?;
+    assert_eq!(rt; ended, 1);
+    assert!(rt; written.as_slice().ends_with(b"{\"error\":\"truncated\",\"number\":0,\"value\":78}"));
+    Ok(())
+}
+
+#[test]
+fn a_keeper_that_fails_once_fails_one_request(rt: HostRuntime) -> Result<(), Fail> {
+    let bytes = format!(in rt.alloc(); "{FLAT}GET /traces/flat/1 HTTP/1.1\r\n\r\n{FLAT}")?;
+    let failed = refusal(rt.alloc(), "503 Service Unavailable", "", "{\"error\":\"keeper\",\"number\":0,\"value\":0}")?;
+    let absent = refusal(rt.alloc(), "404 Not Found", "", "{\"error\":\"absent\",\"number\":1,\"value\":\"flat\"}")?;
+    let wanted = format!(in rt.alloc(); "{failed}{absent}{MADE}")?;
+    let (status, written) = session(rt.alloc(), bytes.as_bytes(), 13, &[2])?;
+    assert_eq!(rt; written.as_slice(), wanted.as_bytes());
+    assert_eq!(rt; status, 0);
+    let (status, written) = session(rt.alloc(), bytes.as_bytes(), 13, &[1])?;
+    assert_eq!(rt; status, 5);
+    assert!(rt; written.is_empty());
+    Ok(())
+}
+
+#[test]
+fn a_session_ends_where_its_devices_fail(rt: HostRuntime) -> Result<(), Fail> {
+    let words = words_of(rt.alloc(), "session")?;
+    let twice = format!(in rt.alloc(); "{FLAT}{FLAT}")?;
+    let (status, written) = outcome(rt.alloc(), &words, twice.as_bytes(), FLAT.len(), &[2], &[])?;
+    assert_eq!(rt; status, 3);
+    assert_eq!(rt; written.as_slice(), MADE.as_bytes());
+    let (status, written) = outcome(rt.alloc(), &words, twice.as_bytes(), FLAT.len(), &[], &[2])?;
+    assert_eq!(rt; status, 4);
+    assert_eq!(rt; written.as_slice(), b"HTTP/1.1 ".as_slice());
+    Ok(())
+}
+
+#[test]
+fn a_store_with_a_record_is_damaged_yet(rt: HostRuntime) -> Result<(), Fail> {
+    let words = words_of(rt.alloc(), "session")?;
+    let mut keeper = MapKeeper::new(rt.alloc(), &[])?;
+    for _ in 0..2 {
+        let mut source = MemSource::new(rt.alloc(), FLAT.as_bytes(), 64, &[])?;
+        let mut sink = MemSink::new(rt.alloc(), 4096, &[])?;
+        let status = over(rt.alloc(), &words, &mut source, &mut sink, &mut keeper)?;
+        if status == 8 {
+            assert_eq!(rt; sink.written(), b"damaged 1\n".as_slice());
+            assert_eq!(rt; source.left(), FLAT.as_bytes());
+            return Ok(());
+        }
+        assert_eq!(rt; sink.written(), MADE.as_bytes());
+    }
+    Err(Fail::from("not damaged"))
 }

@@ -1,17 +1,21 @@
-ghost use Rattle.std.specs.Prelude.{◌≡◌, ◌⊎◌, ◌≤◌, ◌≢◌, ◌↔◌, None, [], map, IfSome};
+ghost use Rattle.std.specs.Prelude.{◌≡◌, ◌⊎◌, ◌≤◌, ◌≢◌, ◌↔◌, ℕ, true, false, Some, None, [], map, IfSome};
 ghost use Rattle.std.specs.String.{string_bytes};
 ghost use Rattle.cds_base.specs.Faults.{Rose};
 ghost use Rattle.cds_base.specs.Told.{then_more};
 ghost use Rattle.cds_rules.specs.Ranges.{SlopeRanges};
 ghost use Rattle.cds_desk.specs.Sending.{HoldsPrefix};
-ghost use Rattle.cds_desk.specs.Words.{options_of};
-ghost use Rattle.cds_desk.specs.Run.{Sent, OfAnswer, OfBytes, IsStatus, usage_line};
+ghost use Rattle.cds_desk.specs.Words.{options_of, is_session, States};
+ghost use Rattle.cds_desk.specs.Run.{Sent, OfAnswer, OfBytes, IsStatus, EndsUnserved, usage_line};
+ghost use Rattle.cds_desk.specs.Serving.{reading, IsDone, IsRefused, IsUnread, IsBroken};
+ghost use Rattle.cds_desk.specs.Session.{SessionOf, damage_of, damaged_line};
 
 use crate::answer::{Answer, DONE, REFUSED, peaks_answer};
 use crate::receiving::{ReceiveError, receive};
 use crate::sending::send;
-use crate::words::{PeaksOptions, read_words};
-use cds_base::{Failed, Sink, Source, Steps};
+use crate::session::session;
+use crate::words::{CommandLine, PeaksOptions, read_words};
+use cds_base::{Clock, Door, Failed, Sink, Source, Steps};
+use cds_keep::Keeper;
 use std::alloc::Global;
 use std::sync::ledger::Ledger;
 
@@ -24,8 +28,14 @@ pub const SOURCE_FAILED: u8 = 3;
 /// The status where the sink failed.
 pub const SINK_FAILED: u8 = 4;
 
+/// The status where the keeper failed in a load.
+pub const KEEPER_FAILED: u8 = 5;
+
 /// The status where memory is wanting.
 pub const NO_MEMORY: u8 = 6;
+
+/// The status where the store is damaged.
+pub const DAMAGED: u8 = 8;
 
 /// What is written where the words are no command.
 const USAGE: &[u8] = b"usage: cds peaks|session|serve|demo\n";
@@ -35,58 +45,89 @@ const USAGE: &[u8] = b"usage: cds peaks|session|serve|demo\n";
 /// `peaks --bunch B --on T --off T --plateau P` reads a trace from the source to its end and writes to the sink
 /// the table of its raw peaks, or `too many` and their number where there are more than 500 (status 0); or, where
 /// the trace is refused, `refused`, the number of the refusal and the record at fault if there is one (status 1).
-/// A source of more than 4,194,304 bytes is refused with number 9, whatever they are.
+/// A source of more than 4,194,304 bytes is refused with number 9, whatever they are. Status 3 comes only where the
+/// source failed, and nothing is then written; status 4 only where the sink failed while a table was written, of
+/// which a front then stands in it.
 ///
-/// Other words are no command: the line of usage is written, and nothing is read (status 2). Status 3 comes only
-/// where the source failed, and nothing is then written; status 4 only where the sink failed while a table was
-/// written, of which a front then stands in it; a sink that fails while another text is written leaves the status
-/// of that text. Status 6 is want of memory, and nothing is then written.
-pub fn run<S: Source, W: Sink, L: Ledger>(
+/// `session` loads the store of the empty name and serves the source as one connection, with the responses written
+/// to the sink: 0 where the source was read to its end or to a request that closes the connection, 1 where the last
+/// response tells a fault of the stream, 3 and 4 where the source or the sink failed, 5 where the keeper failed in
+/// the load, and nothing was then read or written, and 8 where the store is damaged, which `damaged` and the
+/// record's number tell.
+///
+/// Other words are no command: the line of usage is written, and nothing is read or loaded (status 2). A sink that
+/// fails in the line of 2, of 8 or of a refused trace leaves that status. Status 6 is want of memory, and nothing is
+/// then written. The clock and the door are not used yet.
+pub fn run<S: Source, W: Sink, K: Keeper, C: Clock, D: Door, L: Ledger>(
     alloc: Global,
     words: &[String],
     source: &mut S,
     sink: &mut W,
+    keeper: &mut K,
+    clock: &mut C,
+    _door: &mut D,
     steps: &mut Steps<L>,
 ) -> u8
-    ensures no_command { (result ≡ 2) ↔ (options_of (map string_bytes words.now) ≡ None) }
+    ensures no_command { (result ≡ 2) ↔ States (map string_bytes words.now) None }
     ensures usage { result ≡ 2 → Sent (W.written sink.old) (W.written sink.new) (W.faults sink.old) (W.faults sink.new) usage_line }
-    ensures usage_reads_nothing { result ≡ 2 → source.new ≡ source.old }
+    ensures usage_reads_nothing { result ≡ 2 → (source.new ≡ source.old) × (keeper.new ≡ keeper.old) }
+
+    // ---- `peaks`
 
     // The whole table of the source's bytes, read to their end.
     ensures done { result ≡ 0 → OfAnswer (map string_bytes words.now) (S.left source.old) (λ answer.
         (answer.status ≡ 0) × (W.written sink.new ≡ then_more (W.written sink.old) answer.text)) }
-    ensures read_to_the_end { result ≡ 0 → IfSome (S.left source.new) (λ rest. rest ≡ []) }
+    ensures read_to_the_end { result ≡ 0 → IfSome (options_of (map string_bytes words.now)) (λ _. IfSome (S.left source.new) (λ rest. rest ≡ [])) }
 
     // The line of the refusal, whole unless the sink failed.
     ensures refused { result ≡ 1 → OfAnswer (map string_bytes words.now) (S.left source.old) (λ answer.
         (answer.status ≡ 1) × Sent (W.written sink.old) (W.written sink.new) (W.faults sink.old) (W.faults sink.new) answer.text) }
+    ensures source_failed_writes_nothing { result ≡ 3 → IfSome (options_of (map string_bytes words.now)) (λ _. sink.new ≡ sink.old) }
+
+    // A front of the table.
+    ensures sink_failed_in_table { result ≡ 4 → OfAnswer (map string_bytes words.now) (S.left source.old) (λ answer.
+        (answer.status ≡ 0) × HoldsPrefix (W.written sink.old) (W.written sink.new) answer.text) }
+    ensures peaks_keeps_nothing { IfSome (options_of (map string_bytes words.now)) (λ _. keeper.new ≡ keeper.old) }
+
+    // ---- `session`, from the tables of the store that the load found
+
+    ensures session_done { result ≡ 0 → is_session (map string_bytes words.now) ≡ true → SessionOf IsDone (K.finds keeper.old []) (W.written sink.old) (K.faults keeper.old) (W.written sink.new) (K.content keeper.new) (K.faults keeper.new) (reading (S.given source.old) (S.left source.old)) (reading (S.given source.new) (S.left source.new)) }
+    ensures session_refused { result ≡ 1 → is_session (map string_bytes words.now) ≡ true → SessionOf IsRefused (K.finds keeper.old []) (W.written sink.old) (K.faults keeper.old) (W.written sink.new) (K.content keeper.new) (K.faults keeper.new) (reading (S.given source.old) (S.left source.old)) (reading (S.given source.new) (S.left source.new)) }
+    ensures session_unread { result ≡ 3 → is_session (map string_bytes words.now) ≡ true → SessionOf IsUnread (K.finds keeper.old []) (W.written sink.old) (K.faults keeper.old) (W.written sink.new) (K.content keeper.new) (K.faults keeper.new) (reading (S.given source.old) (S.left source.old)) (reading (S.given source.new) (S.left source.new)) }
+    ensures session_broken { result ≡ 4 → is_session (map string_bytes words.now) ≡ true → SessionOf IsBroken (K.finds keeper.old []) (W.written sink.old) (K.faults keeper.old) (W.written sink.new) (K.content keeper.new) (K.faults keeper.new) (reading (S.given source.old) (S.left source.old)) (reading (S.given source.new) (S.left source.new)) }
+    ensures keeper_failed { result ≡ 5 → (is_session (map string_bytes words.now) ≡ true) × Rose (K.faults keeper.old) (K.faults keeper.new) }
+    ensures keeper_failed_touches_nothing { result ≡ 5 → (source.new ≡ source.old) × (sink.new ≡ sink.old) × (K.is_open keeper.new ≡ false) }
+    ensures damaged { result ≡ 8 → (is_session (map string_bytes words.now) ≡ true) × ((number : ℕ) × IfSome (K.finds keeper.old []) (λ found. damage_of found ≡ Some number)
+        × Sent (W.written sink.old) (W.written sink.new) (W.faults sink.old) (W.faults sink.new) (damaged_line number)) }
+    ensures damaged_reads_nothing { result ≡ 8 → source.new ≡ source.old }
+    ensures damaged_only { is_session (map string_bytes words.now) ≡ true → IfSome (K.finds keeper.old []) (λ found. damage_of found ≢ None → EndsUnserved result) }
+    ensures session_takes_no_step { is_session (map string_bytes words.now) ≡ true → steps.new ≡ steps.old }
+
+    // ---- any command
 
     // A read that failed ends the command with 3, whatever the bytes are.
     ensures failed_read { result ≢ 3 → S.faults source.new ≡ S.faults source.old }
     ensures source_failed { result ≡ 3 → Rose (S.faults source.old) (S.faults source.new) }
-    ensures source_failed_writes_nothing { result ≡ 3 → sink.new ≡ sink.old }
-
-    // A front of the table.
     ensures sink_failed { result ≡ 4 → Rose (W.faults sink.old) (W.faults sink.new) }
-    ensures sink_failed_in_table { result ≡ 4 → OfAnswer (map string_bytes words.now) (S.left source.old) (λ answer.
-        (answer.status ≡ 0) × HoldsPrefix (W.written sink.old) (W.written sink.new) answer.text) }
-
     ensures no_memory_writes_nothing { result ≡ 6 → sink.new ≡ sink.old }
     ensures statuses { IsStatus result }
     ensures source_counts { S.faults source.old ≤ S.faults source.new }
     ensures sink_counts { W.faults sink.old ≤ W.faults sink.new }
+    ensures keeper_counts { K.faults keeper.old ≤ K.faults keeper.new }
+    ensures clock_stays { clock.new ≡ clock.old }
+    ensures door_stays { _door.new ≡ _door.old }
 {
     match read_words(words) {
-        Some(options) => peaks(alloc, options, source, sink, steps),
-        None => {
-            attempt(sink, USAGE);
-            NO_COMMAND
-        }
+        Some(CommandLine::Peaks(options)) => return peaks(alloc, options, source, sink, steps),
+        Some(CommandLine::Session) => return session(alloc, source, sink, keeper, clock, steps),
+        None => {}
     }
+    attempt(sink, USAGE);
+    NO_COMMAND
 }
 
 /// Writes the text, as far as the sink takes it.
-fn attempt<W: Sink>(sink: &mut W, text: &[u8])
+pub(crate) fn attempt<W: Sink>(sink: &mut W, text: &[u8])
     ensures sent { Sent (W.written sink.old) (W.written sink.new) (W.faults sink.old) (W.faults sink.new) text.now }
     ensures counts { W.faults sink.old ≤ W.faults sink.new }
 {

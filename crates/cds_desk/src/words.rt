@@ -5,7 +5,7 @@ ghost use Rattle.std.specs.Str.{bytes_eq};
 ghost use Rattle.std.specs.Str.Parse.{digits_value};
 ghost use Rattle.std.specs.String.{string_bytes};
 ghost use Rattle.cds_rules.specs.Ranges.{SlopeRanges};
-ghost use Rattle.cds_desk.specs.Words.{options_of, are_peaks_words, number_in, number_of, is_number, below_2_64};
+ghost use Rattle.cds_desk.specs.Words.{is_session, States, HasRanges, options_of, are_peaks_words, number_in, number_of, is_number, below_2_64};
 
 use cds_rules::{MOST_BUNCH, MOST_PLATEAU, MOST_SLOPE};
 
@@ -18,25 +18,56 @@ pub struct PeaksOptions {
     pub plateau: u32,
 }
 
+/// The command that the words state.
+#[derive(Clone, Copy, Debug, PartialEq, Eq)]
+pub enum CommandLine {
+    /// `peaks` with its options.
+    Peaks(PeaksOptions),
+    /// `session` alone.
+    Session,
+}
+
+/// The command that the words state. None exactly where they are no command.
+#[tactic(auto, using(crate::proofs::Commands::session_states_no_options))]
+pub(crate) fn read_words(words: &[String]) -> Option<CommandLine>
+    ensures value { States (map string_bytes words.now) result }
+    ensures ranges { IfSome result HasRanges }
+{
+    if is_session(words) {
+        return Some(CommandLine::Session);
+    }
+    let Some(options) = read_peaks(words) else {
+        return None;
+    };
+    Some(CommandLine::Peaks(options))
+}
+
+/// Whether the words are `session` alone.
+fn is_session(words: &[String]) -> bool
+    ensures { result ≡ is_session (map string_bytes words.now) }
+{
+    words.len() == 1 && is_word(&words[0], "session")
+}
+
 /// The options that the words state: `peaks --bunch B --on T --off T --plateau P`, each option as two words
-/// and in this order. None exactly where the words are no command.
-pub(crate) fn read_words(words: &[String]) -> Option<PeaksOptions>
+/// and in this order. None exactly where the words are no such command.
+fn read_peaks(words: &[String]) -> Option<PeaksOptions>
     ensures value { result ≡ options_of (map string_bytes words.now) }
     ensures ranges { IfSome result (λ o. SlopeRanges o.bunch o.slope_on o.slope_off o.plateau) }
 {
     if !are_peaks_words(words) {
         return None;
     }
-    let Some(bunch) = number_in(&words[2], 1, MOST_BUNCH) else {
+    let Some(bunch) = number_in(words[2].as_str(), 1, MOST_BUNCH) else {
         return None;
     };
-    let Some(slope_on) = number_in(&words[4], 1, MOST_SLOPE) else {
+    let Some(slope_on) = number_in(words[4].as_str(), 1, MOST_SLOPE) else {
         return None;
     };
-    let Some(slope_off) = number_in(&words[6], 1, MOST_SLOPE) else {
+    let Some(slope_off) = number_in(words[6].as_str(), 1, MOST_SLOPE) else {
         return None;
     };
-    let Some(plateau) = number_in(&words[8], 0, MOST_PLATEAU) else {
+    let Some(plateau) = number_in(words[8].as_str(), 0, MOST_PLATEAU) else {
         return None;
     };
     Some(PeaksOptions {
@@ -66,11 +97,11 @@ fn is_word(word: &String, text: &str) -> bool
 }
 
 /// The number that 1 to 20 digits write, where it lies from `low` to `high`.
-fn number_in(word: &String, low: u32, high: u32) -> Option<u32>
-    ensures value { result ≡ number_in low high (string_bytes word.now) }
+pub(crate) fn number_in(word: &str, low: u32, high: u32) -> Option<u32>
+    ensures value { result ≡ number_in low high word.now }
     ensures range { IfSome result (λ n. (low ≤ n) × (n ≤ high)) }
 {
-    let Some(number) = number_of(word.as_str()) else {
+    let Some(number) = number_of(word) else {
         return None;
     };
     if (low as u64) <= number && number <= (high as u64) {

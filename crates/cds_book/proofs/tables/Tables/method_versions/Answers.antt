@@ -17,3 +17,9 @@ pub returns-clause-value : goal.returns-clause-value
 returns-clause-value c =
     let found = method_named-at c.self.inside _ c.self.view_is _ _ _ _ c.deref.ensures.value c.in-Ok.ensures.found c.index.ensures in
     ap Some (c.len.ensures ∙ c.index.result.now.versions.ok.0) ∙ sym (method_versions_of-found _ _ _ found)
+
+-- and the number of them is kept below the limit
+pub returns-clause-few : goal.returns-clause-few
+returns-clause-few c =
+    let kept = IsMethodEntry-at c.self.inside c.self.invariant _ _ _ _ c.deref.ensures.value c.in-Ok.ensures.found c.index.ensures in
+    omega (arith, kept.few, c.index.result.now.versions.ok.0, c.len.ensures)

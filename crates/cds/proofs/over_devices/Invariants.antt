@@ -1,4 +1,4 @@
-use Rattle.cds.proofs.main.Given as goal
+use Rattle.cds.proofs.over_devices.Given as goal
 
 abbrev pub ghosts-run : goal.ghosts-run
 ghosts-run a = record { name = a.blank.name; parts = a.blank.parts }

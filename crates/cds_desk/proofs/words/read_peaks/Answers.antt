@@ -2,7 +2,7 @@ use Rattle.std.proofs.Common.{◌≡◌, ℕ, Option, Some, None, refl, sym, ari
 use Rattle.std.proofs.lemmas.Grind.{common_steps}
 use Rattle.cds_desk.specs.Words.{options_from}
 use Rattle.cds_desk.specs.declared.words.PeaksOptions.{PeaksOptions}
-use Rattle.cds_desk.proofs.words.read_words.Goals as goal
+use Rattle.cds_desk.proofs.words.read_peaks.Goals as goal
 
 -- nothing is set where the second number is not there
 none_second : (b on off p : Option ℕ) → None ≡ on → None ≡ options_from b on off p

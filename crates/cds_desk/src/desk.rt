@@ -1,0 +1,69 @@
+ghost use Rattle.cds_desk.specs.declared.desk.OpenError.TheVariants.{NoMemory};
+ghost use Rattle.std.specs.Prelude.{◌≡◌, ◌⊎◌, IfOk, OnErr, Err};
+ghost use Rattle.cds_desk.specs.Opening.{opened, OpensAs};
+
+use crate::routes::{Route, route_table};
+use cds_base::Steps;
+use cds_book::Tables;
+use cds_keep::Records;
+use matchit::Router;
+use std::alloc::{AllocError, Global};
+use std::marker::Model;
+use std::sync::ledger::Ledger;
+
+/// The server's desk: the tables, and the routes over them. Seen as what the tables hold.
+#[derive(Drop)]
+pub struct Desk {
+    pub(crate) router: Router<Route>,
+    pub(crate) tables: Tables,
+}
+
+impl Model for Desk {
+    ghost use Rattle.std.specs.Prelude.{◌≡◌};
+    ghost use Rattle.cds_book.specs.Tables.{TablesState};
+    ghost use Rattle.cds_desk.specs.Routes.{route_table};
+
+    ghost Value = { TablesState };
+
+    ghost view = { λ d. d.tables.state };
+
+    ghost invariant = { λ d. d.router ≡ route_table };
+}
+
+/// Why a list of records is no store of this system, or wasn't opened.
+#[derive(Clone, Copy, Debug, PartialEq, Eq)]
+pub enum OpenError {
+    /// The record of this number, counted from 1, is none, or the tables before it don't accept its change.
+    Damaged(u64),
+    /// Memory is wanting.
+    NoMemory,
+}
+
+impl From<AllocError> for OpenError {
+    ghost from_gives = { λ _ e. e ≡ NoMemory };
+
+    fn from(_error: AllocError) -> OpenError {
+        OpenError::NoMemory
+    }
+}
+
+impl Desk {
+    /// The desk whose tables the records make, one after the other. Damaged exactly where a record makes none, with
+    /// the number of the first such record. No record can be read yet, so that is the first of any. No step.
+    pub fn open<L: Ledger>(
+        alloc: Global,
+        records: &Records,
+        steps: &mut Steps<L>,
+    ) -> Result<Desk, OpenError>
+        ensures opens { OpensAs (opened records.now) result }
+        ensures steps { steps.new ≡ steps.old }
+    {
+        if 0 < records.len() {
+            return Err(OpenError::Damaged(1));
+        }
+        Ok(Desk {
+            router: route_table(alloc)?,
+            tables: Tables::new(alloc),
+        })
+    }
+}

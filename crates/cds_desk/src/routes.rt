@@ -1,0 +1,71 @@
+ghost use Rattle.std.specs.Prelude.{◌≡◌, IfOk, MatchOption, None, option_map};
+ghost use Rattle.matchit.specs.Rows.{RowsOf};
+ghost use Rattle.matchit.specs.Router.{RouteOf};
+ghost use Rattle.matchit.specs.Seek.{first};
+ghost use Rattle.cds_desk.specs.Routes.{pattern_of, method_of, with_route, route_table};
+
+use cds_base::NoMemory;
+use http::Method;
+use matchit::Router;
+use std::alloc::Global;
+
+/// The routes of the server. Each has a pattern of paths and one method.
+#[derive(Clone, Copy, Debug, PartialEq, Eq)]
+pub(crate) enum Route {
+    /// A trace is put under a name.
+    PutTrace,
+    /// The text of a trace's version is read.
+    GetTrace,
+}
+
+impl Route {
+    /// The pattern of its paths.
+    pub(crate) fn pattern(self) -> &'static str
+        ensures { result.now ≡ pattern_of self }
+    {
+        match self {
+            Route::PutTrace => "/traces/{name}",
+            Route::GetTrace => "/traces/{name}/{version}",
+        }
+    }
+
+    /// Its method.
+    pub(crate) fn method(self) -> Method
+        ensures { result ≡ method_of self }
+    {
+        match self {
+            Route::PutTrace => Method::PUT,
+            Route::GetTrace => Method::GET,
+        }
+    }
+}
+
+/// The router over all routes.
+pub(crate) fn route_table(alloc: Global) -> Result<Router<Route>, NoMemory>
+    ensures { IfOk result (λ router. router ≡ route_table) }
+{
+    let mut router = Router::new(alloc);
+    add(&mut router, Route::PutTrace)?;
+    add(&mut router, Route::GetTrace)?;
+    Ok(router)
+}
+
+/// Adds a route. The patterns are ours and none is like another, so memory is all that can be wanting.
+fn add(router: &mut Router<Route>, route: Route) -> Result<(), NoMemory>
+    ensures { IfOk result (λ _. router.new ≡ with_route route router.old) }
+{
+    match router.insert(route.pattern(), route) {
+        Ok(()) => Ok(()),
+        Err(_) => Err(NoMemory),
+    }
+}
+
+/// The route whose pattern the path fits.
+pub(crate) fn find(router: &Router<Route>, path: &str) -> Option<Route>
+    ensures { result ≡ option_map (λ found. found.value) (first router.now path.now) }
+{
+    match router.at(path) {
+        Ok(found) => Some(*found.value),
+        Err(_) => None,
+    }
+}

@@ -1,0 +1,257 @@
+//! Serving a connection: items of the stream are taken one after the other, each is served before the next.
+
+ghost use Rattle.std.specs.Prelude.{◌≡◌, ◌≢◌, ◌+◌, ◌^◌, ◌<◌, ◌≤◌, true, false, [], ◌∷◌, length, slice_range, Some, None, ◌⊎◌, IsUtf8, List, ℕ, Option, IfOk, OnOk, OnErr, vec_len, codes, bytes_eq};
+ghost use Rattle.cds_base.specs.Faults.{Rose};
+ghost use Rattle.cds_base.specs.Told.{then_more};
+ghost use Rattle.cds_desk.specs.Sending.{HoldsPrefix};
+ghost use Rattle.cds_http.specs.Items.{request as request_item, fault as fault_item, continue as continue_item, Item};
+ghost use Rattle.cds_http.specs.Stream.{message_of, IsRequestIn, room_of, ItemsFrom};
+ghost use Rattle.cds_http.specs.declared.next.Fault.{Fault};
+ghost use Rattle.cds_http.specs.declared.next.Next.TheVariants as next;
+ghost use Rattle.cds_desk.specs.Serving.{world, reading, ItemServed, ItemBroken, IsDone, IsRefused, IsUnread, IsBroken, ReadOn};
+ghost use Rattle.cds_desk.specs.Service.{fault_text};
+ghost use Rattle.cds_desk.specs.Turn.{Asks};
+
+use crate::desk::Desk;
+use crate::refusing::send_fault;
+use crate::response::continue_text;
+use crate::sending::send;
+use crate::turn::{Asked, answer, write_answer};
+use cds_base::{Clock, Failed, Sink, Source, Steps};
+use cds_http::{Fault, Messages, Next, Request, Span};
+use cds_keep::Keeper;
+use std::alloc::{AllocError, Global};
+use std::str;
+use std::sync::ledger::Ledger;
+
+/// How many bytes are asked for in one read.
+const PIECE_BYTES: usize = 65_536;
+
+/// How the serving of a connection ended.
+#[derive(Clone, Copy, Debug, PartialEq, Eq)]
+pub enum Ended {
+    /// Every response was written, and the source was read to its end without a fault of the stream, or to a request
+    /// after which the connection closes by its own wish.
+    Done,
+    /// The last response tells a fault of the stream.
+    Refused,
+    /// The source failed.
+    SourceFailed,
+    /// The sink failed.
+    SinkFailed,
+    /// Memory was wanting before anything was read.
+    NoMemory,
+}
+
+impl Desk {
+    /// Serves a connection: reads HTTP messages from the source and writes the responses to the sink, each message in
+    /// its turn, until the source ends, a request closes the connection or a fault of the stream is told. The bytes
+    /// that were read fix what is written, whatever the sizes of the reads. A change is put to the keeper, whose
+    /// store is open, and then carried out; a request that is refused, finds no memory or a keeper that fails changes
+    /// nothing. After `SinkFailed` a front of what is due stands in the sink. `NoMemory` comes before anything is read
+    /// or written. No request asks the clock or takes a step yet.
+    pub fn serve_connection<S: Source, W: Sink, K: Keeper, C: Clock, L: Ledger>(
+        &mut self,
+        alloc: Global,
+        source: &mut S,
+        sink: &mut W,
+        keeper: &mut K,
+        clock: &mut C,
+        steps: &mut Steps<L>,
+    ) -> Ended
+        requires { K.is_open keeper.old ≡ true }
+        ensures done { result ≡ Ended.Done → IsDone (world (W.written sink.old) (K.content keeper.old) (K.faults keeper.old) self.old) (world (W.written sink.new) (K.content keeper.new) (K.faults keeper.new) self.new) (reading (S.given source.old) (S.left source.old)) (reading (S.given source.new) (S.left source.new)) }
+        ensures refused { result ≡ Ended.Refused → IsRefused (world (W.written sink.old) (K.content keeper.old) (K.faults keeper.old) self.old) (world (W.written sink.new) (K.content keeper.new) (K.faults keeper.new) self.new) (reading (S.given source.old) (S.left source.old)) (reading (S.given source.new) (S.left source.new)) }
+        ensures unread { result ≡ Ended.SourceFailed → IsUnread (world (W.written sink.old) (K.content keeper.old) (K.faults keeper.old) self.old) (world (W.written sink.new) (K.content keeper.new) (K.faults keeper.new) self.new) (reading (S.given source.old) (S.left source.old)) (reading (S.given source.new) (S.left source.new)) }
+        ensures failed_read { result ≢ Ended.SourceFailed → S.faults source.new ≡ S.faults source.old }
+        ensures source_failed { result ≡ Ended.SourceFailed → Rose (S.faults source.old) (S.faults source.new) }
+        ensures broken { result ≡ Ended.SinkFailed → IsBroken (world (W.written sink.old) (K.content keeper.old) (K.faults keeper.old) self.old) (world (W.written sink.new) (K.content keeper.new) (K.faults keeper.new) self.new) (reading (S.given source.old) (S.left source.old)) (reading (S.given source.new) (S.left source.new)) }
+        ensures sink_failed { result ≡ Ended.SinkFailed → Rose (W.faults sink.old) (W.faults sink.new) }
+        ensures no_memory { result ≡ Ended.NoMemory → (self.new ≡ self.old) × (source.new ≡ source.old) × (sink.new ≡ sink.old) × (keeper.new ≡ keeper.old) }
+        ensures stays_open { K.is_open keeper.new ≡ true }
+        ensures source_counts { S.faults source.old ≤ S.faults source.new }
+        ensures sink_counts { W.faults sink.old ≤ W.faults sink.new }
+        ensures keeper_counts { K.faults keeper.old ≤ K.faults keeper.new }
+        ensures clock_stays { clock.new ≡ clock.old }
+        ensures steps { steps.new ≡ steps.old }
+    {
+        let Ok(mut messages) = Messages::new(alloc) else {
+            return Ended::NoMemory;
+        };
+        let Ok(mut piece) = room(alloc, PIECE_BYTES) else {
+            return Ended::NoMemory;
+        };
+        loop {
+            match messages.next() {
+                Next::More => match ask(source, &mut messages, &mut piece) {
+                    Ok(0) => return finish(&mut messages, sink),
+                    Ok(_) => {}
+                    Err(Failed) => return Ended::SourceFailed,
+                },
+                Next::Continue => match send(sink, continue_text()) {
+                    Ok(()) => {}
+                    Err(Failed) => return Ended::SinkFailed,
+                },
+                Next::Request(request) => {
+                    match self.serve(alloc, &messages, request, sink, keeper) {
+                        Ok(()) => messages.done(),
+                        Err(Failed) => return Ended::SinkFailed,
+                    }
+                    if request.close {
+                        return Ended::Done;
+                    }
+                }
+                Next::Fault(fault) => return refuse(sink, fault),
+            }
+        }
+    }
+}
+
+impl Desk {
+    #[tactic(auto, using(crate::proofs::TurnLaws::served_ok, crate::proofs::TurnLaws::broken_err))]
+    /// Serves a request: what is answered to it is written, and what it changes is kept and carried out.
+    fn serve<W: Sink, K: Keeper>(
+        &mut self,
+        alloc: Global,
+        messages: &Messages,
+        request: Request,
+        sink: &mut W,
+        keeper: &mut K,
+    ) -> Result<(), Failed>
+        requires opened { K.is_open keeper.old ≡ true }
+        requires whole { IsRequestIn messages.now.bytes request }
+        ensures served { OnOk result (ItemServed (world (W.written sink.old) (K.content keeper.old) (K.faults keeper.old) self.old) (world (W.written sink.new) (K.content keeper.new) (K.faults keeper.new) self.new) (request_item (message_of messages.now.bytes request))) }
+        ensures broken { OnErr result (ItemBroken (world (W.written sink.old) (K.content keeper.old) (K.faults keeper.old) self.old) (world (W.written sink.new) (K.content keeper.new) (K.faults keeper.new) self.new) (request_item (message_of messages.now.bytes request))) }
+        ensures failed { OnErr result (Rose (W.faults sink.old) (W.faults sink.new)) }
+        ensures counts { W.faults sink.old ≤ W.faults sink.new }
+        ensures stays_open { K.is_open keeper.new ≡ true }
+        ensures keeper_counts { K.faults keeper.old ≤ K.faults keeper.new }
+    {
+        let asked = asked_in(messages.bytes(), request);
+        let answered = answer(alloc, &self.router, &mut self.tables, keeper, asked);
+        write_answer(sink, &answered, asked.close, asked.without_body)
+    }
+}
+
+/// The parts of a request, which are ranges of these bytes.
+fn asked_in(bytes: &[u8], request: Request) -> Asked<'_>
+    requires { IsRequestIn bytes.now request }
+    ensures { Asks result (message_of bytes.now request) }
+{
+    let method = range(bytes, request.method);
+    Asked {
+        method,
+        target: text(range(bytes, request.path)),
+        body: range(bytes, request.body),
+        close: request.close,
+        without_body: method == b"HEAD".as_slice(),
+    }
+}
+
+/// The bytes of a range.
+fn range(bytes: &[u8], span: Span) -> &[u8]
+    requires ordered { span.start ≤ span.end }
+    requires in_range { span.end ≤ length bytes.now }
+    ensures { result.now ≡ slice_range bytes.now span.start span.end }
+{
+    &bytes[span.start as usize..span.end as usize]
+}
+
+/// The text that the bytes are.
+fn text(bytes: &[u8]) -> &str
+    requires { IsUtf8 bytes.now }
+    ensures { result.now ≡ bytes.now }
+{
+    str::from_utf8(bytes).unwrap()
+}
+
+/// Asks the source for as many bytes as the stream and the piece have room for.
+fn ask<S: Source>(
+    source: &mut S,
+    messages: &mut Messages,
+    piece: &mut Vec<u8>,
+) -> Result<usize, Failed>
+    requires room { 0 < room_of messages.old }
+    requires some { 0 < vec_len piece.old }
+    requires not_closed { messages.old.closed ≡ false }
+    requires counted { S.bound source.old < 2 ^ 64 → messages.old.place + length messages.old.bytes + S.bound source.old < 2 ^ 64 }
+    ensures read { IfOk result (ReadOn (reading (S.given source.old) (S.left source.old)) (reading (S.given source.new) (S.left source.new)) messages.old messages.new) }
+    ensures nears { IfOk result (λ n. S.bound source.new + n ≡ S.bound source.old) }
+    ensures bounded { S.bound source.old < 2 ^ 64 }
+    ensures counts { S.faults source.old ≤ S.faults source.new }
+    ensures kept { IfOk result (λ _. S.faults source.new ≡ S.faults source.old) }
+    ensures failed { OnErr result (Rose (S.faults source.old) (S.faults source.new)) }
+    ensures given_stays { OnErr result (S.given source.new ≡ S.given source.old) }
+    ensures left_stays { OnErr result (S.left source.new ≡ S.left source.old) }
+    ensures stream_stays { OnErr result (messages.new ≡ messages.old) }
+    ensures piece { vec_len piece.new ≡ vec_len piece.old }
+{
+    let most = messages.room().min(piece.len());
+    read_on(source, messages, &mut piece[..most])
+}
+
+/// Asks the source for the next bytes of the stream, and answers how many came; 0 is its end.
+#[tactic(auto, using(crate::proofs::ServingLaws::read_some))]
+fn read_on<S: Source>(
+    source: &mut S,
+    messages: &mut Messages,
+    piece: &mut [u8],
+) -> Result<usize, Failed>
+    requires in_room { length piece.old ≤ room_of messages.old }
+    requires some { 0 < length piece.old }
+    requires not_closed { messages.old.closed ≡ false }
+    requires counted { S.bound source.old < 2 ^ 64 → messages.old.place + length messages.old.bytes + S.bound source.old < 2 ^ 64 }
+    ensures read { IfOk result (ReadOn (reading (S.given source.old) (S.left source.old)) (reading (S.given source.new) (S.left source.new)) messages.old messages.new) }
+    ensures nears { IfOk result (λ n. S.bound source.new + n ≡ S.bound source.old) }
+    ensures bounded { S.bound source.old < 2 ^ 64 }
+    ensures counts { S.faults source.old ≤ S.faults source.new }
+    ensures kept { IfOk result (λ _. S.faults source.new ≡ S.faults source.old) }
+    ensures failed { OnErr result (Rose (S.faults source.old) (S.faults source.new)) }
+    ensures given_stays { OnErr result (S.given source.new ≡ S.given source.old) }
+    ensures left_stays { OnErr result (S.left source.new ≡ S.left source.old) }
+    ensures stream_stays { OnErr result (messages.new ≡ messages.old) }
+    ensures piece { length piece.new ≡ length piece.old }
+{
+    let count = source.read(piece)?;
+    if 0 < count {
+        messages.feed(&piece[..count]);
+    }
+    Ok(count)
+}
+
+/// Room for so many bytes.
+fn room(alloc: Global, count: usize) -> Result<Vec<u8>, AllocError>
+    ensures { IfOk result (λ bytes. vec_len bytes ≡ count) }
+{
+    vec![in alloc; 0; count]
+}
+
+/// Judges what is left at the end of the source, and tells a fault.
+fn finish<W: Sink>(messages: &mut Messages, sink: &mut W) -> Ended
+    requires asked { messages.old.last ≡ Some Next.More }
+    requires not_closed { messages.old.closed ≡ false }
+    ensures done { result ≡ Ended.Done → ItemsFrom messages.old [] true [] × (sink.new ≡ sink.old) }
+    ensures refused { result ≡ Ended.Refused → (fault : Fault) × ItemsFrom messages.old [] true (fault_item fault ∷ []) × (W.written sink.new ≡ then_more (W.written sink.old) (fault_text fault)) }
+    ensures broken { result ≡ Ended.SinkFailed → (fault : Fault) × ItemsFrom messages.old [] true (fault_item fault ∷ []) × HoldsPrefix (W.written sink.old) (W.written sink.new) (fault_text fault) }
+    ensures rose { result ≡ Ended.SinkFailed → Rose (W.faults sink.old) (W.faults sink.new) }
+    ensures either { (result ≡ Ended.Done) ⊎ (result ≡ Ended.Refused) ⊎ (result ≡ Ended.SinkFailed) }
+    ensures counts { W.faults sink.old ≤ W.faults sink.new }
+{
+    match messages.end() {
+        None => return Ended::Done,
+        Some(fault) => return refuse(sink, fault),
+    }
+}
+
+/// Tells a fault of the stream.
+fn refuse<W: Sink>(sink: &mut W, fault: Fault) -> Ended
+    ensures refused { result ≡ Ended.Refused → W.written sink.new ≡ then_more (W.written sink.old) (fault_text fault) }
+    ensures broken { result ≡ Ended.SinkFailed → HoldsPrefix (W.written sink.old) (W.written sink.new) (fault_text fault) × Rose (W.faults sink.old) (W.faults sink.new) }
+    ensures either { (result ≡ Ended.Refused) ⊎ (result ≡ Ended.SinkFailed) }
+    ensures counts { W.faults sink.old ≤ W.faults sink.new }
+{
+    match send_fault(sink, fault) {
+        Ok(()) => Ended::Refused,
+        Err(Failed) => Ended::SinkFailed,
+    }
+}
