@@ -252,10 +252,13 @@ module _ {E : Type 0} (name_of : E → List ℕ) where
     where
       order_of : (o : Ordering) → byte_cmp name (name_of entry) ≡ o → (e : E) → bytes_eq (name_of e) name ≡ true → byte_cmp (name_of e) (name_of entry) ≡ o
       order_of o is e same = ap (λ n. byte_cmp n (name_of entry)) ((bytes_eq-Decides (name_of e) name).0 same) ∙ is
+
       passed : find (λ e. bytes_eq (name_of e) name) (entry ∷ filter (λ e. is_gt (byte_cmp (name_of e) (name_of entry))) entries) ≡ find (λ e. bytes_eq (name_of e) name) (filter (λ e. is_gt (byte_cmp (name_of e) (name_of entry))) entries)
       passed = rw other refl
+
       joined : find (λ e. bytes_eq (name_of e) name) (placed name_of entries entry) ≡ option_or (find (λ e. bytes_eq (name_of e) name) (filter (λ e. is_lt (byte_cmp (name_of e) (name_of entry))) entries)) (find (λ e. bytes_eq (name_of e) name) (filter (λ e. is_gt (byte_cmp (name_of e) (name_of entry))) entries))
       joined = find-append (λ e. bytes_eq (name_of e) name) (filter (λ e. is_lt (byte_cmp (name_of e) (name_of entry))) entries) (entry ∷ filter (λ e. is_gt (byte_cmp (name_of e) (name_of entry))) entries) ∙ ap (option_or (find (λ e. bytes_eq (name_of e) name) (filter (λ e. is_lt (byte_cmp (name_of e) (name_of entry))) entries))) passed
+
       by_order : (o : Ordering) → byte_cmp name (name_of entry) ≡ o → find (λ e. bytes_eq (name_of e) name) (placed name_of entries entry) ≡ find (λ e. bytes_eq (name_of e) name) entries
       by_order Less is = joined ∙ ap₂ option_or
           (find-filter_all (λ e. bytes_eq (name_of e) name) (λ e. is_lt (byte_cmp (name_of e) (name_of entry))) (λ e same. ap is_lt (order_of Less is e same)) entries)

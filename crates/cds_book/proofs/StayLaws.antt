@@ -58,13 +58,13 @@ trace_of-with t put name more version signal is =
     let after = with_signals t put versions in
     elim (cases_Bool (bytes_eq put name)) [
       | inl same ↦
-        let one : put ≡ name = (bytes_eq-Decides put name).0 same in
-        let found : traces_named after name ≡ Some entry = subst (λ n. traces_named after n ≡ Some entry) one (named-placed trace_name t.traces entry) in
-        let was : numbered (signals_of t put) version ≡ Some signal = subst (λ n. numbered (signals_of t n) version ≡ Some signal) (sym one) (signals_of-version t name version signal is) in
-        trace_of-found after name (Some entry) found version ∙ numbered-append (signals_of t put) more version signal was
+          let one : put ≡ name = (bytes_eq-Decides put name).0 same in
+          let found : traces_named after name ≡ Some entry = subst (λ n. traces_named after n ≡ Some entry) one (named-placed trace_name t.traces entry) in
+          let was : numbered (signals_of t put) version ≡ Some signal = subst (λ n. numbered (signals_of t n) version ≡ Some signal) (sym one) (signals_of-version t name version signal is) in
+          trace_of-found after name (Some entry) found version ∙ numbered-append (signals_of t put) more version signal was
       | inr other ↦
-        let found : traces_named after name ≡ traces_named t name = named-placed_other trace_name t.traces entry name other in
-        trace_of-found after name (traces_named t name) found version ∙ sym (trace_of-found t name (traces_named t name) refl version) ∙ is
+          let found : traces_named after name ≡ traces_named t name = named-placed_other trace_name t.traces entry name other in
+          trace_of-found after name (traces_named t name) found version ∙ sym (trace_of-found t name (traces_named t name) refl version) ∙ is
     ]
 
 -- versions of methods stay when more are put
@@ -75,13 +75,13 @@ method_of-with t put draft name more version text is =
     let after = with_method t put draft versions in
     elim (cases_Bool (bytes_eq put name)) [
       | inl same ↦
-        let one : put ≡ name = (bytes_eq-Decides put name).0 same in
-        let found : method_named after name ≡ Some entry = subst (λ n. method_named after n ≡ Some entry) one (method_named-with t put draft versions) in
-        let was : numbered (texts_of t put) version ≡ Some text = subst (λ n. numbered (texts_of t n) version ≡ Some text) (sym one) (texts_of-version t name version text is) in
-        method_of-found after name (Some entry) found version ∙ numbered-append (texts_of t put) more version text was
+          let one : put ≡ name = (bytes_eq-Decides put name).0 same in
+          let found : method_named after name ≡ Some entry = subst (λ n. method_named after n ≡ Some entry) one (method_named-with t put draft versions) in
+          let was : numbered (texts_of t put) version ≡ Some text = subst (λ n. numbered (texts_of t n) version ≡ Some text) (sym one) (texts_of-version t name version text is) in
+          method_of-found after name (Some entry) found version ∙ numbered-append (texts_of t put) more version text was
       | inr other ↦
-        let found : method_named after name ≡ method_named t name = named-placed_other method_name t.methods entry name other in
-        method_of-found after name (method_named t name) found version ∙ sym (method_of-found t name (method_named t name) refl version) ∙ is
+          let found : method_named after name ≡ method_named t name = named-placed_other method_name t.methods entry name other in
+          method_of-found after name (method_named t name) found version ∙ sym (method_of-found t name (method_named t name) refl version) ∙ is
     ]
 
 -- traces don't look at methods, nor methods at traces
