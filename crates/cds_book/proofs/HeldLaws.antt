@@ -1,25 +1,27 @@
 -- What is kept of tables as they are held: the counts, and the rules of the tables after a change.
 use Rattle.std.proofs.Common.{◌≡◌, ◌∙◌, ℕ, zero, suc, ◌+◌, ◌<◌, ◌≤◌, ◌==◌, Bool, true, false, not, Bor, List, [], ◌∷◌, ◌++◌, length, get_or, set, take, drop, map, vec_len, Option, Some, None, option_map, Vec, Global, refl, sym, ap, ap₂, subst, arith}
 use Rattle.std.specs.Prelude.{IfSome, IsSome, is_none, is_some, option_copied}
-use Rattle.std.specs.List.{insert}
+use Rattle.std.specs.List.{insert, HoldsAt}
 use Rattle.std.proofs.lemmas.Bool.Decides.{nat_tests}
 use Rattle.std.proofs.lemmas.List.{length-map, map-set, map-append, take-map, drop-map, get_or-map}
 use Rattle.cds_trace.specs.Signal.{Signal}
-use Rattle.cds_book.specs.Held.{traces_shown, method_shown, room_shown, state_held, tables_held, IsHeld, HasRoom, IsTraceAt, IsTraceGap}
+use Rattle.cds_book.specs.Held.{traces_shown, method_shown, room_shown, state_held, tables_held, IsHeld, HasRoom, IsTraceAt, IsTraceGap, IsMethodAt, IsMethodGap}
 use Rattle.cds_book.specs.Kept.{IsTables, trace_versions_in_all, samples_in_all, method_versions_in_all}
 use Rattle.cds_book.specs.Places.{placed, StandsAt}
-use Rattle.cds_book.specs.Plan.{applied, counts_of, with_signals, Accepts}
+use Rattle.cds_book.specs.Plan.{applied, counts_of, with_signals, with_method, Accepts}
 use Rattle.cds_book.specs.Tables.{NamedTraces, NamedMethod, TablesState, TablesValue, Room, trace_room, draft_room, freeze_room, signals_of, draft_of, texts_of}
 use Rattle.cds_book.specs.declared.command.Change.TheVariants as change
+use Rattle.cds_book.specs.declared.command.Change.{Change}
 use Rattle.cds_book.specs.declared.entry.TraceEntry.{TraceEntry}
+use Rattle.cds_book.specs.declared.entry.MethodEntry.{MethodEntry}
 use Rattle.cds_book.specs.declared.limits.TheConstants.{MOST_TRACE_NAMES, MOST_VERSIONS, MOST_TRACE_VERSIONS, MOST_SAMPLES_IN_ALL, MOST_METHODS, MOST_METHOD_VERSIONS}
 use Rattle.cds_book.specs.declared.room.Taken.{Taken}
-use Rattle.cds_book.specs.declared.room.Taken.TheVariants.{Version, Traces}
+use Rattle.cds_book.specs.declared.room.Taken.TheVariants.{Version, Traces, Draft, Method, Freeze}
 use Rattle.cds_book.specs.declared.tables.Tables.TheInside.{Inside}
 use Rattle.cds_book.proofs.PlaceLaws.{placed-stands, placed-gap}
-use Rattle.cds_book.proofs.LookLaws.{traces_named-at, traces_named-gap, signals_of-found}
+use Rattle.cds_book.proofs.LookLaws.{traces_named-at, traces_named-gap, signals_of-found, method_named-at, method_named-gap, texts_of-found, draft_of-found}
 use Rattle.cds_book.proofs.TraceLaws.{trace_name, new_name, applied-trace, counts-trace, trace_versions-trace, samples-trace, IsTables-trace}
-use Rattle.cds_book.proofs.MethodLaws.{method_name, applied-draft, applied-freeze, counts-draft, counts-freeze}
+use Rattle.cds_book.proofs.MethodLaws.{method_name, applied-draft, applied-freeze, counts-draft, counts-freeze, method_versions-with}
 use mir.Val.{bool_byte}
 
 -- a name is new where it has no versions
@@ -39,7 +41,7 @@ counts-held a v name signal versions names new samples held view_is many are fre
     let length_held : names ≡ length t.traces = many ∙ a.traces.ok.0 ∙ sym (length-map a.traces.items traces_shown) in
     let fresh' : new ≡ new_name (signals_of t name) = fresh ∙ new_name-empty versions ∙ ap new_name are' in
     subst (λ s. (names + new, MOST_TRACE_NAMES) ∷ (length versions + 1, MOST_VERSIONS) ∷ (a.trace_versions + 1, MOST_TRACE_VERSIONS) ∷ (a.samples + samples, MOST_SAMPLES_IN_ALL) ∷ [] ≡ counts_of (change.Trace name signal) (applied s (change.Trace name signal))) same
-        (rw (length_held, fresh', are', held.trace_versions, held.samples, long) (sym (counts-trace t held.tables name signal)))
+    (rw (length_held, fresh', are', held.trace_versions, held.samples, long) (sym (counts-trace t held.tables name signal)))
 
 -- tables of equal lists are equal
 pub state_eq : (xs ys : List NamedTraces) (ms ns : List NamedMethod) → xs ≡ ys → ms ≡ ns → let s : TablesState = record { traces = xs; methods = ms } in let t : TablesState = record { traces = ys; methods = ns } in s ≡ t
@@ -52,6 +54,10 @@ value_eq s t r q e f = cc
 -- entries of equal names and versions are equal
 pub entry_eq : (n m : List ℕ) (vs ws : List Signal) → n ≡ m → vs ≡ ws → let e : NamedTraces = record { name = n; versions = vs } in let f : NamedTraces = record { name = m; versions = ws } in e ≡ f
 entry_eq n m vs ws e f = cc
+
+-- methods of equal names, drafts and versions are equal
+pub method_eq : (n m d g : List ℕ) (vs ws : List (List ℕ)) → n ≡ m → d ≡ g → vs ≡ ws → let e : NamedMethod = record { name = n; draft = d; versions = vs } in let f : NamedMethod = record { name = m; draft = g; versions = ws } in e ≡ f
+method_eq n m d g vs ws e f h = cc
 
 -- an insertion among what is shown
 map-insert : {X Y : Type 0} (f : X → Y) (xs : List X) (i : ℕ) (y : X) → map f (insert xs i y) ≡ insert (map f xs) i (f y)
@@ -162,7 +168,7 @@ draft_counts-held a v name text draft is_new methods new held view_is many is se
     let length_held : methods ≡ length t.methods = many ∙ a.methods.ok.0 ∙ sym (length-map a.methods.items method_shown) in
     let fresh' : new ≡ bool_byte (is_none (draft_of t name)) = fresh ∙ ap bool_byte (none_seen draft is_new seen) ∙ ap (λ o. bool_byte (is_none o)) (is ∙ ap (λ s. draft_of s name) (sym same)) in
     subst (λ s. (methods + new, MOST_METHODS) ∷ [] ≡ counts_of (change.Draft name text) (applied s (change.Draft name text))) same
-        (rw (length_held, fresh') (sym (counts-draft t held.tables name text)))
+    (rw (length_held, fresh') (sym (counts-draft t held.tables name text)))
 
 -- a draft that is there
 pub some_draft : {X : Type 0} (o : Option X) → IsSome o → (x : X) × (o ≡ Some x)
@@ -180,4 +186,89 @@ freeze_counts-held a v name version texts held view_is is_there are =
     let are' : texts ≡ texts_of t name = are ∙ ap (λ s. texts_of s name) (sym same) in
     let is' : draft_of t name ≡ Some draft = ap (λ s. draft_of s name) same ∙ is in
     subst (λ s. (length texts + 1, MOST_VERSIONS) ∷ (a.method_versions + 1, MOST_METHOD_VERSIONS) ∷ [] ≡ counts_of (change.Freeze name version) (applied s (change.Freeze name version))) same
-        (rw (are', held.method_versions) (sym (counts-freeze t held.tables name version draft is')))
+    (rw (are', held.method_versions) (sym (counts-freeze t held.tables name version draft is')))
+
+-- room for another draft, for a new method, and for one more version of a method
+pub room-draft : (a : Inside) (v : TablesValue) (name n : List ℕ) (at : ℕ) (x : Taken) → tables_held a ≡ v → IsHeld a → v.room ≡ Some (draft_room name) → Some x ≡ a.room → x ≡ Draft n at → IsMethodAt a.methods.items name at
+room-draft a v name n at x view_is held is taken same =
+    let shown : room_shown (Draft n at) ≡ draft_room name = ap room_shown (sym same) ∙ room_name a v (draft_room name) x view_is is taken in
+    let one : n ≡ name = cc in
+    subst (λ m. IsMethodAt a.methods.items m at) one (HasRoom-taken a x (Draft n at) held taken same)
+
+pub room-method : (a : Inside) (v : TablesValue) (name n : List ℕ) (at : ℕ) (x : Taken) → tables_held a ≡ v → IsHeld a → v.room ≡ Some (draft_room name) → Some x ≡ a.room → x ≡ Method n at → IsMethodGap a.methods.items name at
+room-method a v name n at x view_is held is taken same =
+    let shown : room_shown (Method n at) ≡ draft_room name = ap room_shown (sym same) ∙ room_name a v (draft_room name) x view_is is taken in
+    let one : n ≡ name = cc in
+    subst (λ m. IsMethodGap a.methods.items m at) one (HasRoom-taken a x (Method n at) held taken same).0
+
+pub room-freeze : (a : Inside) (v : TablesValue) (name n : List ℕ) (at : ℕ) (text : List ℕ) (x : Taken) → tables_held a ≡ v → IsHeld a → v.room ≡ Some (freeze_room name) → Some x ≡ a.room → x ≡ Freeze n at text → IsMethodAt a.methods.items name at × HoldsAt (λ (e : MethodEntry). e.draft ≡ text) a.methods.items at
+room-freeze a v name n at text x view_is held is taken same =
+    let shown : room_shown (Freeze n at text) ≡ freeze_room name = ap room_shown (sym same) ∙ room_name a v (freeze_room name) x view_is is taken in
+    let one : n ≡ name = cc in
+    let room = HasRoom-taken a x (Freeze n at text) held taken same in
+    (subst (λ m. IsMethodAt a.methods.items m at) one room.0, λ d. (room.1 d).0)
+
+-- b is a with this draft and these versions of a method, so many more than before
+pub record PutsMethod (a b : Inside) (name draft : List ℕ) (versions : List (List ℕ)) (more : ℕ) : Type 0 where
+  pub methods : map method_shown b.methods.items ≡ placed method_name (map method_shown a.methods.items) (record { name = name; draft = draft; versions = versions })
+  pub grown : length versions ≡ length (texts_of (state_held a) name) + more
+  pub method_versions : b.method_versions ≡ a.method_versions + more
+  pub traces : b.traces.items ≡ a.traces.items
+  pub trace_versions : b.trace_versions ≡ a.trace_versions
+  pub samples : b.samples ≡ a.samples
+  pub room : b.room ≡ None
+
+module _ (a : Inside) (name : List ℕ) (at : ℕ) (e : MethodEntry) where
+  -- what is read of a method that is there
+  pub texts_of-read : (r : MethodEntry) → IsMethodAt a.methods.items name at → r ≡ get_or a.methods.items at r → texts_of (state_held a) name ≡ r.versions.items
+  texts_of-read r stands read = texts_of-found (state_held a) name _ (method_named-at a (tables_held a) refl name at a.methods.items r refl stands read)
+
+  pub draft_of-read : (r : MethodEntry) → IsMethodAt a.methods.items name at → r ≡ get_or a.methods.items at r → draft_of (state_held a) name ≡ Some r.draft
+  draft_of-read r stands read = draft_of-found (state_held a) name _ (method_named-at a (tables_held a) refl name at a.methods.items r refl stands read)
+
+  -- another entry of a method that is there
+  pub puts_entry : (r : MethodEntry) (draft : List ℕ) (versions : List (List ℕ)) → IsMethodAt a.methods.items name at → r ≡ get_or a.methods.items at r → e.name ≡ r.name → e.draft ≡ draft → e.versions.items ≡ versions →
+      map method_shown (set a.methods.items at e) ≡ placed method_name (map method_shown a.methods.items) (record { name = name; draft = draft; versions = versions })
+  puts_entry r draft versions stands read named drafted versioned =
+      let entry : NamedMethod = record { name = name; draft = draft; versions = versions } in
+      let same_name : e.name ≡ name = named ∙ read_name method_shown method_name a.methods.items name at r stands read in
+      let shown : method_shown e ≡ entry = method_eq e.name name e.draft draft e.versions.items versions same_name drafted versioned in
+      map-set method_shown a.methods.items at e ∙ ap (set (map method_shown a.methods.items) at) shown ∙ sym (placed-stands method_name (map method_shown a.methods.items) entry at stands)
+
+  -- the entry of a new method
+  pub puts_method : (draft : List ℕ) → IsMethodGap a.methods.items name at → e.name ≡ name → e.draft ≡ draft → e.versions.items ≡ [] →
+      map method_shown (insert a.methods.items at e) ≡ placed method_name (map method_shown a.methods.items) (record { name = name; draft = draft; versions = texts_of (state_held a) name })
+  puts_method draft gap named drafted none =
+      let versions = texts_of (state_held a) name in
+      let entry : NamedMethod = record { name = name; draft = draft; versions = versions } in
+      let no_texts : versions ≡ [] = texts_of-found (state_held a) name _ (method_named-gap a (tables_held a) refl name at a.methods.items refl gap) in
+      let shown : method_shown e ≡ entry = method_eq e.name name e.draft draft e.versions.items versions named drafted (none ∙ sym no_texts) in
+      map-insert method_shown a.methods.items at e ∙ ap (insert (map method_shown a.methods.items) at) shown ∙ sym (placed-gap method_name (map method_shown a.methods.items) entry at gap)
+
+module _ (a b : Inside) (v : TablesValue) (view_is : tables_held a ≡ v) (name draft : List ℕ) (versions : List (List ℕ)) (more : ℕ) (puts : PutsMethod a b name draft versions more) (c : Change) (is : applied (state_held a) c ≡ with_method (state_held a) name draft versions) where
+  -- what the tables then hold
+  state-PutsMethod : state_held b ≡ applied (state_held a) c
+  state-PutsMethod = state_eq _ _ _ _ (ap (map traces_shown) puts.traces) puts.methods ∙ sym is
+
+  pub view-PutsMethod : tables_held b ≡ record { state = applied v.state c; room = None }
+  view-PutsMethod =
+      let state : state_held b ≡ applied v.state c = state-PutsMethod ∙ ap (λ (w : TablesValue). applied w.state c) view_is in
+      let room : option_map room_shown b.room ≡ None = ap (option_map room_shown) puts.room in
+      value_eq (state_held b) (applied v.state c) (option_map room_shown b.room) None state room
+
+  -- and that all is kept
+  pub IsHeld-PutsMethod : IsHeld a → IsTables (applied (state_held a) c) → IsHeld b
+  IsHeld-PutsMethod held kept =
+      let t = state_held a in
+      let same : state_held b ≡ with_method t name draft versions = state-PutsMethod ∙ is in
+      record {
+        tables = subst IsTables (sym state-PutsMethod) kept;
+        trace_versions = puts.trace_versions ∙ held.trace_versions ∙ ap trace_versions_in_all (ap (map traces_shown) (sym puts.traces));
+        samples = puts.samples ∙ held.samples ∙ ap samples_in_all (ap (map traces_shown) (sym puts.traces));
+        method_versions = puts.method_versions ∙ ap (λ n. n + more) held.method_versions ∙ sym (method_versions-with t held.tables name draft versions more puts.grown) ∙ ap (λ (s : TablesState). method_versions_in_all s.methods) (sym same);
+        room = subst (λ o. IfSome o (HasRoom b)) (sym puts.room) tt;
+      }
+
+-- a change that is accepted of what the tables are seen as is accepted of what they hold
+pub Accepts-held : (a : Inside) (v : TablesValue) (c : Change) → tables_held a ≡ v → Accepts v.state c → Accepts (state_held a) c
+Accepts-held a v c view_is accepts = subst (λ (w : TablesValue). Accepts w.state c) (sym view_is) accepts

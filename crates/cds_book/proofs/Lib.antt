@@ -3,5 +3,7 @@ pub mod LookLaws
 pub mod VersionLaws
 pub mod TraceLaws
 pub mod MethodLaws
+pub mod PlanLaws
+pub mod StayLaws
 pub mod HeldLaws
 pub mod RoomLaws

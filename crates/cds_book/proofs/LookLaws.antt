@@ -24,7 +24,7 @@ module _ (a : Inside) (v : TablesValue) (view_is : tables_held a ≡ v) (name : 
   traces_named-at entries r same stands read =
       let here : IsTraceAt a.traces.items name at = subst (λ es. IsTraceAt es name at) same stands in
       subst (λ (w : TablesValue). traces_named w.state name ≡ Some (traces_shown r)) view_is
-          (named-read traces_shown (λ (e : NamedTraces). e.name) a.traces.items name at r here (omega (arith, length-map a.traces.items traces_shown, here.within)) read)
+      (named-read traces_shown (λ (e : NamedTraces). e.name) a.traces.items name at r here (omega (arith, length-map a.traces.items traces_shown, here.within)) read)
 
   -- a trace name that isn't there
   pub traces_named-gap : (entries : List TraceEntry) → entries ≡ a.traces.items → IsTraceGap entries name at → traces_named v.state name ≡ None
@@ -36,7 +36,7 @@ module _ (a : Inside) (v : TablesValue) (view_is : tables_held a ≡ v) (name : 
   method_named-at entries r same stands read =
       let here : IsMethodAt a.methods.items name at = subst (λ es. IsMethodAt es name at) same stands in
       subst (λ (w : TablesValue). method_named w.state name ≡ Some (method_shown r)) view_is
-          (named-read method_shown (λ (e : NamedMethod). e.name) a.methods.items name at r here (omega (arith, length-map a.methods.items method_shown, here.within)) read)
+      (named-read method_shown (λ (e : NamedMethod). e.name) a.methods.items name at r here (omega (arith, length-map a.methods.items method_shown, here.within)) read)
 
   -- a method that isn't there
   pub method_named-gap : (entries : List MethodEntry) → entries ≡ a.methods.items → IsMethodGap entries name at → method_named v.state name ≡ None

@@ -40,7 +40,7 @@ unfolding applied
 applied-freeze t name version draft is = rw is refl
 
 module _ (t : TablesState) (name draft : List ℕ) (versions : List (List ℕ)) where
-  method_named-with : method_named (with_method t name draft versions) name ≡ Some (record { name = name; draft = draft; versions = versions })
+  pub method_named-with : method_named (with_method t name draft versions) name ≡ Some (record { name = name; draft = draft; versions = versions })
   method_named-with = named-placed method_name t.methods (record { name = name; draft = draft; versions = versions })
 
   -- a method that was put has the draft and the versions that were put
@@ -145,13 +145,13 @@ IsTables-draft t name text kept accepts =
     let counts = counts_of (change.Draft name text) (applied t (change.Draft name text)) in
     let few : length after.methods ≤ MOST_METHODS = elim (cases_Bool (option_map_or (λ d. bytes_eq d text) (draft_of t name) false)) [
       | inl same ↦
-        let unchanged : planned t (command.Draft name text) ≡ Ok plan.Unchanged = planned-same_draft t name text text refl _ refl (sym same) in
-        let contrary : Ok plan.Unchanged ≡ Ok (plan.Change (change.Draft name text)) = sym unchanged ∙ accepts.accepted in
-        cc
+          let unchanged : planned t (command.Draft name text) ≡ Ok plan.Unchanged = planned-same_draft t name text text refl _ refl (sym same) in
+          let contrary : Ok plan.Unchanged ≡ Ok (plan.Change (change.Draft name text)) = sym unchanged ∙ accepts.accepted in
+          cc
       | inr other ↦
-        let judged = planned-other_draft t name text text refl (draft_of t name) refl counts _ (sym other) refl refl in
-        let within : AreWithin counts = AreWithin-none counts (unless_full-ok _ (change.Draft name text) (sym judged ∙ accepts.accepted)) in
-        subst (λ (s : TablesState). length s.methods ≤ MOST_METHODS) is within.0
+          let judged = planned-other_draft t name text text refl (draft_of t name) refl counts _ (sym other) refl refl in
+          let within : AreWithin counts = AreWithin-none counts (unless_full-ok _ (change.Draft name text) (sym judged ∙ accepts.accepted)) in
+          subst (λ (s : TablesState). length s.methods ≤ MOST_METHODS) is within.0
     ] in
     let kept_entry : IsMethodEntry entry = record {
       draft = accepts.command;
@@ -218,11 +218,13 @@ counts-freeze t kept name version draft is =
     let same : length (texts_of (with_method t name draft texts) name) ≡ length (texts_of t name) + 1 = ap length (texts_of-with t name draft texts) ∙ grown in
     rw (applied-freeze t name version draft is, same, method_versions-with t kept name draft texts 1 grown) refl
 
--- what an accepted freeze is: of a draft that isn't the latest version, whose counts are within the limits
+-- what an accepted freeze is: of a draft that isn't the latest version, under the next number, and its counts are
+-- within the limits
 pub record IsNewText (t : TablesState) (name : List ℕ) (version : ℕ) : Type 0 where
   pub draft : List ℕ
   pub is : draft_of t name ≡ Some draft
   pub other : is_latest bytes_eq (texts_of t name) draft ≡ false
+  pub next : version ≡ length (texts_of t name) + 1
   pub within : AreWithin (counts_of (change.Freeze name version) (applied t (change.Freeze name version)))
 
 pub IsNewText-accepted : (t : TablesState) (name : List ℕ) (version : ℕ) → Accepts t (change.Freeze name version) → IsNewText t name version
@@ -240,8 +242,10 @@ IsNewText-accepted t name version accepts = by_draft (draft_of t name) refl
           draft = draft;
           is = is;
           other = other;
+          next = next;
           within = AreWithin-none counts (unless_full-ok _ (change.Freeze name version) (sym answer ∙ accepts.accepted));
         }
+
     by_draft : (found : Option (List ℕ)) → draft_of t name ≡ found → IsNewText t name version
     by_draft None is =
         let refused = planned-no_draft t name version (sym is) in
@@ -249,9 +253,9 @@ IsNewText-accepted t name version accepts = by_draft (draft_of t name) refl
         cc
     by_draft (Some draft) is = elim (cases_Bool (is_latest bytes_eq (texts_of t name) draft)) [
       | inl same ↦
-        let unchanged = planned-latest_text t name version draft (sym is) (texts_of t name) refl (sym same) in
-        let contrary : Ok plan.Unchanged ≡ Ok (plan.Change (change.Freeze name version)) = sym unchanged ∙ accepts.accepted in
-        cc
+          let unchanged = planned-latest_text t name version draft (sym is) (texts_of t name) refl (sym same) in
+          let contrary : Ok plan.Unchanged ≡ Ok (plan.Change (change.Freeze name version)) = sym unchanged ∙ accepts.accepted in
+          cc
       | inr other ↦ judged draft is other (cases_eq version (length (texts_of t name) + 1))
     ]
 
@@ -292,4 +296,4 @@ planned-freeze_again t name version again draft is =
     let texts = texts_of t name ++ draft ∷ [] in
     let after = with_method t name draft texts in
     rw (applied-freeze t name version draft is)
-        (planned-latest_text after name again draft (sym (draft_of-with t name draft texts)) texts (sym (texts_of-with t name draft texts)) (sym (is_latest-push bytes_eq bytes_eq-Decides (texts_of t name) draft)))
+    (planned-latest_text after name again draft (sym (draft_of-with t name draft texts)) texts (sym (texts_of-with t name draft texts)) (sym (is_latest-push bytes_eq bytes_eq-Decides (texts_of t name) draft)))

@@ -6,7 +6,7 @@ use Rattle.std.specs.List.Sorted.{IsStrictlySortedBy, IsSearchInRange, IsBinaryS
 use Rattle.std.specs.Option.{option_map_or, option_or}
 use Rattle.std.specs.Ordering.{ordering_reverse}
 use Rattle.std.specs.Str.{bytes_eq}
-use Rattle.std.proofs.lemmas.Bool.{cases_lt, cases_eq}
+use Rattle.std.proofs.lemmas.Bool.{cases_lt, cases_eq, false≢true}
 use Rattle.std.proofs.lemmas.Cmp.{nat_list_cmp_total, tied_itself}
 use Rattle.std.proofs.lemmas.List.{take-map, drop-map, length-map, map-append, drop_more, take-set, drop-set, get_or-map, length-append, get_or-take, get_or-drop, length-take-le, length-drop}
 use Rattle.std.proofs.lemmas.List.Edits.{length-insert}
@@ -63,6 +63,28 @@ module _ {X : Type 0} (p : X → Bool) where
       let here : p x ≡ false = All-head (λ y. p y ≡ false) x xs none in
       rw here (find-none xs (All-tail (λ y. p y ≡ false) x xs none))
 
+  -- a search among what a filter passes, where it passes all that is sought
+  find-filter_all : (q : X → Bool) → ((x : X) → p x ≡ true → q x ≡ true) → (xs : List X) → find p (filter q xs) ≡ find p xs
+  find-filter_all q passes [] = refl
+  find-filter_all q passes (x ∷ xs) = by_test (p x) (q x) refl refl (find-filter_all q passes xs)
+    where
+      by_test : (b d : Bool) → p x ≡ b → q x ≡ d → find p (filter q xs) ≡ find p xs → find p (cond d (x ∷ filter q xs) (filter q xs)) ≡ cond b (Some x) (find p xs)
+      by_test true true is kept rest = rw is refl
+      by_test true false is kept rest = absurd (false≢true (sym kept ∙ passes x is))
+      by_test false true is kept rest = rw is rest
+      by_test false false is kept rest = rest
+
+  -- and where it passes nothing that is sought
+  find-filter_none : (q : X → Bool) → ((x : X) → p x ≡ true → q x ≡ false) → (xs : List X) → find p (filter q xs) ≡ None
+  find-filter_none q fails [] = refl
+  find-filter_none q fails (x ∷ xs) = by_test (p x) (q x) refl refl (find-filter_none q fails xs)
+    where
+      by_test : (b d : Bool) → p x ≡ b → q x ≡ d → find p (filter q xs) ≡ None → find p (cond d (x ∷ filter q xs) (filter q xs)) ≡ None
+      by_test true true is kept rest = absurd (false≢true (sym (fails x is) ∙ kept))
+      by_test false true is kept rest = rw is rest
+      by_test true false is kept rest = rest
+      by_test false false is kept rest = rest
+
   -- a filter that passes a front alone
   filter-front : (xs ys : List X) → All (λ x. p x ≡ true) xs → All (λ x. p x ≡ false) ys → filter p (xs ++ ys) ≡ xs
   filter-front xs ys all none = filter-append p xs ys ∙ ap₂ ◌++◌ (filter-all xs all) (filter-none ys none) ∙ append-nil xs
@@ -70,6 +92,11 @@ module _ {X : Type 0} (p : X → Bool) where
   -- a filter that passes a back alone
   filter-back : (xs ys : List X) → All (λ x. p x ≡ false) xs → All (λ x. p x ≡ true) ys → filter p (xs ++ ys) ≡ ys
   filter-back xs ys none all = filter-append p xs ys ∙ ap₂ ◌++◌ (filter-none xs none) (filter-all ys all)
+
+-- one answer or none
+option_or-none : {X : Type 0} (o : Option X) → option_or o None ≡ o
+option_or-none None = refl
+option_or-none (Some x) = refl
 
 -- all of a mapped list is all of the list
 All-unmap : {X Y : Type 0} (P : Y → Type 0) (f : X → Y) (xs : List X) → All P (map f xs) → All (λ x. P (f x)) xs
@@ -93,10 +120,11 @@ AreRising-middle [] name back front_rises back_rises below above = (recursion_fr
 AreRising-middle (n ∷ front) name back front_rises back_rises below above =
     let first : byte_cmp n name ≡ Less = All-head (λ m. byte_cmp m name ≡ Less) n front below in
     let behind : All (λ m. byte_cmp n m ≡ Less) (front ++ name ∷ back) = All-append (λ m. byte_cmp n m ≡ Less) front (name ∷ back)
-        (All-after_first byte_cmp n front front_rises)
-        (All-cons (λ m. byte_cmp n m ≡ Less) name back first (All-weaker (λ m. byte_cmp name m ≡ Less) (λ m. byte_cmp n m ≡ Less) (λ m h. nat_list_cmp_total.trans n name m first h) back above)) in
-    (recursion_from_All (λ m. byte_cmp n m ≡ Less) (front ++ name ∷ back) behind,
-     AreRising-middle front name back (sorted_tail byte_cmp n front front_rises) back_rises (All-tail (λ m. byte_cmp m name ≡ Less) n front below) above)
+    (All-after_first byte_cmp n front front_rises)
+    (All-cons (λ m. byte_cmp n m ≡ Less) name back first (All-weaker (λ m. byte_cmp name m ≡ Less) (λ m. byte_cmp n m ≡ Less) (λ m h. nat_list_cmp_total.trans n name m first h) back above)) in (
+      recursion_from_All (λ m. byte_cmp n m ≡ Less) (front ++ name ∷ back) behind,
+      AreRising-middle front name back (sorted_tail byte_cmp n front front_rises) back_rises (All-tail (λ m. byte_cmp m name ≡ Less) n front below) above,
+    )
 
 -- what passes a test of the order
 is_lt-less : (o : Ordering) → is_lt o ≡ true → o ≡ Less
@@ -168,11 +196,11 @@ module _ {E : Type 0} (name_of : E → List ℕ) where
       let parts : entries ≡ front ++ old ∷ back = parts_at entries at entry stands.within in
       let parts' : entries ≡ (front ++ old ∷ []) ++ back = parts ∙ sym (append_assoc front (old ∷ []) back) in
       let lesser : filter lt entries ≡ front = ap (filter lt) parts ∙ filter-front lt front (old ∷ back)
-          (passes_lt name front stands.lesser)
-          (All-cons (λ e. lt e ≡ false) old back (ap is_lt tied) (fails_lt name back stands.greater)) in
+      (passes_lt name front stands.lesser)
+      (All-cons (λ e. lt e ≡ false) old back (ap is_lt tied) (fails_lt name back stands.greater)) in
       let greater : filter gt entries ≡ back = ap (filter gt) parts' ∙ filter-back gt (front ++ old ∷ []) back
-          (All-append (λ e. gt e ≡ false) front (old ∷ []) (fails_gt name front stands.lesser) (All-cons (λ e. gt e ≡ false) old [] (ap is_gt tied) (All-nil (λ e. gt e ≡ false))))
-          (passes_gt name back stands.greater) in
+      (All-append (λ e. gt e ≡ false) front (old ∷ []) (fails_gt name front stands.lesser) (All-cons (λ e. gt e ≡ false) old [] (ap is_gt tied) (All-nil (λ e. gt e ≡ false))))
+      (passes_gt name back stands.greater) in
       ap₂ (λ xs ys. xs ++ entry ∷ ys) lesser greater ∙ sym (set_parts entries at entry stands.within)
 
   -- the entry that stands at the place of a name is that of the name
@@ -192,7 +220,7 @@ module _ {E : Type 0} (name_of : E → List ℕ) where
   named-gap entries name at gap =
       let test = λ (e : E). bytes_eq (name_of e) name in
       find-none test entries (subst (All (λ e. test e ≡ false)) (take-append-drop at entries)
-          (All-append (λ e. test e ≡ false) (take at entries) (drop at entries) (other_less name _ gap.lesser) (other_greater name _ gap.greater)))
+      (All-append (λ e. test e ≡ false) (take at entries) (drop at entries) (other_less name _ gap.lesser) (other_greater name _ gap.greater)))
 
   -- an entry that was placed is that of its name
   pub named-placed : (entries : List E) (entry : E) → named name_of (placed name_of entries entry) (name_of entry) ≡ Some entry
@@ -218,6 +246,30 @@ module _ {E : Type 0} (name_of : E → List ℕ) where
           subst P one (All-head P e es all)
       by_test false other rest = rest (rw other at is)
 
+  -- an entry of another name that was placed leaves what stands under a name
+  pub named-placed_other : (entries : List E) (entry : E) (name : List ℕ) → bytes_eq (name_of entry) name ≡ false → named name_of (placed name_of entries entry) name ≡ named name_of entries name
+  named-placed_other entries entry name other = by_order (byte_cmp name (name_of entry)) refl
+    where
+      order_of : (o : Ordering) → byte_cmp name (name_of entry) ≡ o → (e : E) → bytes_eq (name_of e) name ≡ true → byte_cmp (name_of e) (name_of entry) ≡ o
+      order_of o is e same = ap (λ n. byte_cmp n (name_of entry)) ((bytes_eq-Decides (name_of e) name).0 same) ∙ is
+
+      passed : find (λ e. bytes_eq (name_of e) name) (entry ∷ filter (λ e. is_gt (byte_cmp (name_of e) (name_of entry))) entries) ≡ find (λ e. bytes_eq (name_of e) name) (filter (λ e. is_gt (byte_cmp (name_of e) (name_of entry))) entries)
+      passed = rw other refl
+
+      joined : find (λ e. bytes_eq (name_of e) name) (placed name_of entries entry) ≡ option_or (find (λ e. bytes_eq (name_of e) name) (filter (λ e. is_lt (byte_cmp (name_of e) (name_of entry))) entries)) (find (λ e. bytes_eq (name_of e) name) (filter (λ e. is_gt (byte_cmp (name_of e) (name_of entry))) entries))
+      joined = find-append (λ e. bytes_eq (name_of e) name) (filter (λ e. is_lt (byte_cmp (name_of e) (name_of entry))) entries) (entry ∷ filter (λ e. is_gt (byte_cmp (name_of e) (name_of entry))) entries) ∙ ap (option_or (find (λ e. bytes_eq (name_of e) name) (filter (λ e. is_lt (byte_cmp (name_of e) (name_of entry))) entries))) passed
+
+      by_order : (o : Ordering) → byte_cmp name (name_of entry) ≡ o → find (λ e. bytes_eq (name_of e) name) (placed name_of entries entry) ≡ find (λ e. bytes_eq (name_of e) name) entries
+      by_order Less is = joined ∙ ap₂ option_or
+          (find-filter_all (λ e. bytes_eq (name_of e) name) (λ e. is_lt (byte_cmp (name_of e) (name_of entry))) (λ e same. ap is_lt (order_of Less is e same)) entries)
+          (find-filter_none (λ e. bytes_eq (name_of e) name) (λ e. is_gt (byte_cmp (name_of e) (name_of entry))) (λ e same. ap is_gt (order_of Less is e same)) entries) ∙ option_or-none (find (λ e. bytes_eq (name_of e) name) entries)
+      by_order Greater is = joined ∙ ap₂ option_or
+          (find-filter_none (λ e. bytes_eq (name_of e) name) (λ e. is_lt (byte_cmp (name_of e) (name_of entry))) (λ e same. ap is_lt (order_of Greater is e same)) entries)
+          (find-filter_all (λ e. bytes_eq (name_of e) name) (λ e. is_gt (byte_cmp (name_of e) (name_of entry))) (λ e same. ap is_gt (order_of Greater is e same)) entries)
+      by_order Equal is =
+          let same : bytes_eq (name_of entry) name ≡ true = (bytes_eq-Decides (name_of entry) name).1 (sym (byte_cmp-equal name (name_of entry) is)) in
+          absurd (false≢true (sym other ∙ same))
+
   -- what is kept of each entry is kept when one is placed
   pub All-placed : (P : E → Type 0) (entries : List E) (entry : E) → All P entries → P entry → All P (placed name_of entries entry)
   All-placed P entries entry all here =
@@ -236,12 +288,12 @@ module _ {E : Type 0} (name_of : E → List ℕ) where
       let front = filter (λ e. lt (name_of e)) entries in
       let back = filter (λ e. gt (name_of e)) entries in
       let shape : map name_of (front ++ entry ∷ back) ≡ filter lt names ++ name ∷ filter gt names =
-          map-append name_of front (entry ∷ back) ∙ ap₂ (λ xs ys. xs ++ name ∷ ys) (map-filter lt name_of entries) (map-filter gt name_of entries) in
+      map-append name_of front (entry ∷ back) ∙ ap₂ (λ xs ys. xs ++ name ∷ ys) (map-filter lt name_of entries) (map-filter gt name_of entries) in
       let middle : AreRising (filter lt names ++ name ∷ filter gt names) = AreRising-middle (filter lt names) name (filter gt names)
-          (IsStrictlySortedBy-filter byte_cmp lt names rising)
-          (IsStrictlySortedBy-filter byte_cmp gt names rising)
-          (All-weaker (λ n. lt n ≡ true) (λ n. byte_cmp n name ≡ Less) (λ n h. is_lt-less (byte_cmp n name) h) (filter lt names) (filter_passes lt names))
-          (All-weaker (λ n. gt n ≡ true) (λ n. byte_cmp name n ≡ Less) (λ n h. byte_cmp-forth n name (is_gt-greater (byte_cmp n name) h)) (filter gt names) (filter_passes gt names)) in
+      (IsStrictlySortedBy-filter byte_cmp lt names rising)
+      (IsStrictlySortedBy-filter byte_cmp gt names rising)
+      (All-weaker (λ n. lt n ≡ true) (λ n. byte_cmp n name ≡ Less) (λ n h. is_lt-less (byte_cmp n name) h) (filter lt names) (filter_passes lt names))
+      (All-weaker (λ n. gt n ≡ true) (λ n. byte_cmp name n ≡ Less) (λ n h. byte_cmp-forth n name (is_gt-greater (byte_cmp n name) h)) (filter gt names) (filter_passes gt names)) in
       subst AreRising (sym shape) middle
 
   -- a place behind an entry of a lesser name
@@ -273,23 +325,28 @@ module _ {E : Type 0} (name_of : E → List ℕ) where
       behind : byte_cmp (name_of e) name ≡ Less → (at : ℕ) × (StandsAt name_of es name at ⊎ IsGapAt name_of es name at) → (at : ℕ) × (StandsAt name_of (e ∷ es) name at ⊎ IsGapAt name_of (e ∷ es) name at)
       behind less (at, inl stands) = (suc at, inl (StandsAt-behind e es name at less stands))
       behind less (at, inr gap) = (suc at, inr (IsGapAt-behind e es name at less gap))
+
       by_order : (o : Ordering) → byte_cmp (name_of e) name ≡ o → (at : ℕ) × (StandsAt name_of es name at ⊎ IsGapAt name_of es name at) → (at : ℕ) × (StandsAt name_of (e ∷ es) name at ⊎ IsGapAt name_of (e ∷ es) name at)
       by_order Less less rest = behind less rest
       by_order Equal tied rest =
-          let same : name_of e ≡ name = byte_cmp-equal (name_of e) name tied in
-          (0, inl (record {
-            within = omega arith;
-            here = λ d. same;
-            lesser = All-nil (λ x. byte_cmp (name_of x) name ≡ Less);
-            greater = all_greater e es name rising (λ n h. byte_cmp-back name n (subst (λ m. byte_cmp m n ≡ Less) same h));
-          }))
-      by_order Greater greater rest =
-          (0, inr (record {
-            within = omega arith;
-            lesser = All-nil (λ x. byte_cmp (name_of x) name ≡ Less);
-            greater = All-cons (λ x. byte_cmp (name_of x) name ≡ Greater) e es greater
-                (all_greater e es name rising (λ n h. byte_cmp-back name n (nat_list_cmp_total.trans name (name_of e) n (byte_cmp-forth (name_of e) name greater) h)));
-          }))
+          let same : name_of e ≡ name = byte_cmp-equal (name_of e) name tied in (
+            0,
+            inl (record {
+              within = omega arith;
+              here = λ d. same;
+              lesser = All-nil (λ x. byte_cmp (name_of x) name ≡ Less);
+              greater = all_greater e es name rising (λ n h. byte_cmp-back name n (subst (λ m. byte_cmp m n ≡ Less) same h));
+            }),
+          )
+      by_order Greater greater rest = (
+        0,
+        inr (record {
+          within = omega arith;
+          lesser = All-nil (λ x. byte_cmp (name_of x) name ≡ Less);
+          greater = All-cons (λ x. byte_cmp (name_of x) name ≡ Greater) e es greater
+              (all_greater e es name rising (λ n h. byte_cmp-back name n (nat_list_cmp_total.trans name (name_of e) n (byte_cmp-forth (name_of e) name greater) h)));
+        }),
+      )
 
   -- how a sum over the entries changes when one is placed
   pub sum_by-placed : (f : E → ℕ) (entries : List E) (entry : E) → AreRising (map name_of entries) → sum_by f (placed name_of entries entry) + option_map_or f (named name_of entries (name_of entry)) 0 ≡ sum_by f entries + f entry
@@ -329,7 +386,7 @@ module _ {E : Type 0} (name_of : E → List ℕ) where
       let within : k - at < length (drop at entries) = omega (arith, length-drop at entries) in
       let same : at + (k - at) ≡ k = omega arith in
       subst (λ n. byte_cmp (name_of (get_or entries n d)) name ≡ Greater) same
-          (subst (λ e. byte_cmp (name_of e) name ≡ Greater) (get_or-drop at entries (k - at) d) (greater (k - at) d within))
+      (subst (λ e. byte_cmp (name_of e) name ≡ Greater) (get_or-drop at entries (k - at) d) (greater (k - at) d within))
 
   -- the entry of a name stands at no place but its own
   StandsAt-found : (entries : List E) (name : List ℕ) (k : ℕ) (d : E) → AreRising (map name_of entries) → k < length entries → byte_cmp (name_of (get_or entries k d)) name ≡ Equal → StandsAt name_of entries name k
@@ -353,17 +410,19 @@ module _ {E : Type 0} (name_of : E → List ℕ) where
   searched [] name rising (Ok at) within equal = absurd (omega arith)
   searched (e ∷ es) name rising (Ok at) within equal = (StandsAt-found (e ∷ es) name at e rising within (equal e), tt)
   searched entries name rising (Err at) within parted =
-      let parts = parted (searchable_from_sorted nat_list_cmp_total name_of entries name (sorted_names entries rising)) in
-      (tt, record {
-        within = within;
-        lesser = λ k d below.
-            let front : length (take at entries) ≡ at = length-take-le at entries within in
-            let before : k < at = omega arith in
-            subst (λ x. byte_cmp (name_of x) name ≡ Less) (sym (get_or-take at entries k d before)) (parts.0 k d (omega arith) before);
-        greater = λ k d below.
-            let behind : at + k < length entries = omega (arith, length-drop at entries) in
-            subst (λ x. byte_cmp (name_of x) name ≡ Greater) (sym (get_or-drop at entries k d)) (parts.1 (at + k) d (omega arith) behind);
-      })
+      let parts = parted (searchable_from_sorted nat_list_cmp_total name_of entries name (sorted_names entries rising)) in (
+        tt,
+        record {
+          within = within;
+          lesser = λ k d below.
+              let front : length (take at entries) ≡ at = length-take-le at entries within in
+              let before : k < at = omega arith in
+              subst (λ x. byte_cmp (name_of x) name ≡ Less) (sym (get_or-take at entries k d before)) (parts.0 k d (omega arith) before);
+          greater = λ k d below.
+              let behind : at + k < length entries = omega (arith, length-drop at entries) in
+              subst (λ x. byte_cmp (name_of x) name ≡ Greater) (sym (get_or-drop at entries k d)) (parts.1 (at + k) d (omega arith) behind);
+        },
+      )
 
 -- what holds at a place of a list holds there of what is shown of it
 HoldsAt-map : {X Y : Type 0} (P : Y → Type 0) (f : X → Y) (xs : List X) (at : ℕ) → at < length xs → HoldsAt (λ x. P (f x)) xs at → HoldsAt P (map f xs) at

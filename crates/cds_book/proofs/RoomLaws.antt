@@ -1,23 +1,28 @@
 -- Taking room leaves what the tables hold.
 use Rattle.std.proofs.Common.{◌≡◌, ◌∙◌, ℕ, ◌+◌, ◌<◌, ◌≤◌, List, [], length, get_or, set, map, vec_len, vec_capacity, Option, Some, None, option_map, Vec, Global, refl, sym, ap, subst, arith, get_or-set_same}
-use Rattle.std.specs.Prelude.{IfSome}
+use Rattle.std.specs.Prelude.{IfSome, IsSome}
 use Rattle.std.specs.List.{HoldsAt}
 use Rattle.std.specs.Vec.{with_item}
 use Rattle.std.proofs.Math.Seq.{map-set_same}
 use Rattle.std.specs.List.Sorted.{IsStrictlySortedBy}
-use Rattle.std.proofs.lemmas.List.{length-map}
+use Rattle.std.proofs.lemmas.List.{length-map, get_or_default}
 use Rattle.std.proofs.lemmas.List.Elements.{All-nil}
 use Rattle.cds_trace.specs.Signal.{Signal}
-use Rattle.cds_book.specs.Held.{traces_shown, method_shown, room_shown, state_held, tables_held, IsHeld, HasRoom, IsTraceAt, IsMethodAt}
+use Rattle.cds_book.specs.Held.{traces_shown, method_shown, room_shown, state_held, tables_held, IsHeld, HasRoom, IsTraceAt, IsMethodAt, IsMethodGap}
 use Rattle.cds_book.specs.Kept.{IsTables, IsTraceEntry, IsMethodEntry, trace_versions_in_all, samples_in_all, method_versions_in_all}
 use Rattle.cds_book.specs.Places.{StandsAt}
-use Rattle.cds_book.specs.Tables.{NamedTraces, NamedMethod, TablesState, TablesValue, empty_tables}
+use Rattle.cds_book.specs.Plan.{Accepts}
+use Rattle.cds_book.specs.Tables.{NamedTraces, NamedMethod, TablesState, TablesValue, empty_tables, draft_of}
+use Rattle.cds_book.specs.declared.command.Change.{Change}
+use Rattle.cds_book.specs.declared.command.Change.TheVariants as change
 use Rattle.cds_book.specs.declared.entry.TraceEntry.{TraceEntry}
 use Rattle.cds_book.specs.declared.entry.MethodEntry.{MethodEntry}
 use Rattle.cds_book.specs.declared.room.Taken.{Taken}
-use Rattle.cds_book.specs.declared.room.Taken.TheVariants.{Version}
+use Rattle.cds_book.specs.declared.room.Taken.TheVariants.{Version, Freeze}
 use Rattle.cds_book.specs.declared.tables.Tables.TheInside.{Inside}
-use Rattle.cds_book.proofs.HeldLaws.{state_eq, entry_eq}
+use Rattle.cds_book.proofs.HeldLaws.{state_eq, entry_eq, method_eq, some_draft}
+use Rattle.cds_book.proofs.LookLaws.{method_named-gap, draft_of-found}
+use Rattle.cds_book.proofs.MethodLaws.{IsNewText-accepted}
 
 -- b holds what a holds
 pub record HoldsSame (a b : Inside) : Type 0 where
@@ -58,9 +63,10 @@ module _ (entries : List TraceEntry) (at : ℕ) (r e : TraceEntry) (read : r ≡
   pub room_for_version : (name : List ℕ) → IsTraceAt entries name at → vec_len e.versions < vec_capacity e.versions →
       IsTraceAt (set entries at e) name at × HoldsAt (λ (x : TraceEntry). vec_len x.versions < vec_capacity x.versions) (set entries at e) at
   room_for_version name stands room =
-      let below : at < length entries = omega (arith, length-map entries traces_shown, stands.within) in
-      (subst (λ es. StandsAt (λ (x : NamedTraces). x.name) es name at) (sym same_traces) stands,
-       λ d. subst (λ (x : TraceEntry). vec_len x.versions < vec_capacity x.versions) (sym (get_or-set_same entries at e d below)) room)
+      let below : at < length entries = omega (arith, length-map entries traces_shown, stands.within) in (
+        subst (λ es. StandsAt (λ (x : NamedTraces). x.name) es name at) (sym same_traces) stands,
+        λ d. subst (λ (x : TraceEntry). vec_len x.versions < vec_capacity x.versions) (sym (get_or-set_same entries at e d below)) room,
+      )
 
 -- the tables with this entry at a place, and with this room
 abbrev pub with_trace_entry : Inside → ℕ → TraceEntry → Option Taken → Inside
@@ -110,3 +116,59 @@ IsHeld-empty a traces methods versions samples texts room =
       method_versions = texts ∙ ap (λ (s : TablesState). method_versions_in_all s.methods) (sym none);
       room = subst (λ o. IfSome o (HasRoom a)) (sym room) tt;
     }
+
+module _ (entries : List MethodEntry) (at : ℕ) (r e : MethodEntry) (read : r ≡ get_or entries at r) (shown : method_shown e ≡ method_shown r) where
+  -- an entry of a method that shows the same
+  pub same_methods : map method_shown (set entries at e) ≡ map method_shown entries
+  same_methods = map-set_same method_shown entries at e r (shown ∙ ap method_shown read)
+
+  -- it stands where the other stood, its room is there, and the text is its draft
+  pub room_for_text : (name text : List ℕ) → IsMethodAt entries name at → e.draft ≡ text → vec_len e.versions < vec_capacity e.versions →
+      IsMethodAt (set entries at e) name at × HoldsAt (λ (x : MethodEntry). (x.draft ≡ text) × (vec_len x.versions < vec_capacity x.versions)) (set entries at e) at
+  room_for_text name text stands drafted room =
+      let below : at < length entries = omega (arith, length-map entries method_shown, stands.within) in (
+        subst (λ es. StandsAt (λ (x : NamedMethod). x.name) es name at) (sym same_methods) stands,
+        λ d. subst (λ (x : MethodEntry). (x.draft ≡ text) × (vec_len x.versions < vec_capacity x.versions)) (sym (get_or-set_same entries at e d below)) (drafted, room),
+      )
+
+-- the tables with this entry of a method at a place, and with this room
+abbrev pub with_method_entry : Inside → ℕ → MethodEntry → Option Taken → Inside
+with_method_entry a at e room = record a { methods = with_item a.methods at e; room = room }
+
+-- room for a frozen text leaves what the tables hold
+module _ (a : Inside) (at : ℕ) (r e : MethodEntry) (room : Option Taken) (read : r ≡ get_or a.methods.items at r) (named : e.name ≡ r.name) (drafted : e.draft ≡ r.draft) (same : e.versions.items ≡ r.versions.items) where
+  shown_method_entry : method_shown e ≡ method_shown r
+  shown_method_entry = method_eq e.name r.name e.draft r.draft e.versions.items r.versions.items named drafted same
+
+  pub HoldsSame-method_entry : HoldsSame a (with_method_entry a at e room)
+  HoldsSame-method_entry = record {
+    traces = refl;
+    trace_versions = refl;
+    samples = refl;
+    methods = same_methods a.methods.items at r e read shown_method_entry;
+    method_versions = refl;
+  }
+
+  -- and is there, with the draft as the text
+  pub HasRoom-freeze : (entries : List MethodEntry) (name text : List ℕ) (q : MethodEntry) → entries ≡ a.methods.items → IsMethodAt entries name at → q ≡ get_or a.methods.items at q → text ≡ q.draft → vec_len e.versions + 1 ≤ vec_capacity e.versions → HasRoom (with_method_entry a at e room) (Freeze name at text)
+  HasRoom-freeze entries name text q are stands read_again copied grown =
+      let here : IsMethodAt a.methods.items name at = subst (λ es. IsMethodAt es name at) are stands in
+      let below : at < length a.methods.items = omega (arith, length-map a.methods.items method_shown, here.within) in
+      let one : q ≡ r = read_again ∙ get_or_default a.methods.items at q r below ∙ sym read in
+      room_for_text a.methods.items at r e read shown_method_entry name text here (drafted ∙ sym (copied ∙ ap (λ (x : MethodEntry). x.draft) one)) (omega (arith, grown))
+
+-- a method without a place has no draft
+pub no_gap : (a : Inside) (v : TablesValue) (entries : List MethodEntry) (name : List ℕ) (at : ℕ) → tables_held a ≡ v → entries ≡ a.methods.items → IsMethodGap entries name at → IsSome (draft_of v.state name) → ⊥
+no_gap a v entries name at view_is are gap there =
+    let none : draft_of v.state name ≡ None = draft_of-found v.state name None (method_named-gap a v view_is name at entries are gap) in
+    let some = (some_draft (draft_of v.state name) there).1 in
+    cc
+
+-- an accepted freeze has a draft
+pub draft-accepted : (t : TablesState) (name : List ℕ) (version : ℕ) → Accepts t (change.Freeze name version) → IsSome (draft_of t name)
+draft-accepted t name version accepts = let new = IsNewText-accepted t name version accepts in rw new.is refl
+
+-- it is one of the tables without room too
+pub draft-reserved : (a : Inside) (v : TablesValue) (c : Change) (name : List ℕ) (version : ℕ) → tables_held a ≡ v → Accepts v.state c → c ≡ change.Freeze name version → IsSome (draft_of (state_held a) name)
+draft-reserved a v c name version view_is accepts is =
+    draft-accepted (state_held a) name version (subst (Accepts (state_held a)) is (subst (λ (w : TablesValue). Accepts w.state c) (sym view_is) accepts))

@@ -115,16 +115,16 @@ pub record IsNewTrace (t : TablesState) (name : List ℕ) (signal : Signal) : Ty
 pub IsNewTrace-accepted : (t : TablesState) (name : List ℕ) (signal : Signal) → Accepts t (change.Trace name signal) → IsNewTrace t name signal
 IsNewTrace-accepted t name signal accepts = elim (cases_Bool (is_latest same_signal (signals_of t name) signal)) [
   | inl same ↦
-    let unchanged : planned t (command.Trace name signal) ≡ Ok plan.Unchanged = planned-latest_trace t name signal _ refl (sym same) in
-    let contrary : Ok plan.Unchanged ≡ Ok (plan.Change (change.Trace name signal)) = sym unchanged ∙ accepts.accepted in
-    cc
+      let unchanged : planned t (command.Trace name signal) ≡ Ok plan.Unchanged = planned-latest_trace t name signal _ refl (sym same) in
+      let contrary : Ok plan.Unchanged ≡ Ok (plan.Change (change.Trace name signal)) = sym unchanged ∙ accepts.accepted in
+      cc
   | inr other ↦
-    let counts = counts_of (change.Trace name signal) (applied t (change.Trace name signal)) in
-    let judged = planned-other_trace t name signal (signals_of t name) refl counts _ (sym other) refl refl in
-    record {
-      other = other;
-      within = AreWithin-none counts (unless_full-ok _ (change.Trace name signal) (sym judged ∙ accepts.accepted));
-    }
+      let counts = counts_of (change.Trace name signal) (applied t (change.Trace name signal)) in
+      let judged = planned-other_trace t name signal (signals_of t name) refl counts _ (sym other) refl refl in
+      record {
+        other = other;
+        within = AreWithin-none counts (unless_full-ok _ (change.Trace name signal) (sym judged ∙ accepts.accepted));
+      }
 ]
 
 -- the versions of a name differ each from the one before

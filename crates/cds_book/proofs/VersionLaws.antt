@@ -22,9 +22,10 @@ use Rattle.cds_book.specs.declared.error.PlanError.{PlanError}
 -- whether two traces are equal
 pub same_signal-Decides : (a b : Signal) → Decides (same_signal a b) (a ≡ b)
 same_signal-Decides a b =
-    let parts = Decides-and (a.period == b.period) (pointwise int_eq a.samples b.samples) (Decides-eqb a.period b.period) (slice_eq-Decides Decides-int_eq a.samples b.samples (pointwise int_eq a.samples b.samples) refl) in
-    (λ h. let both = parts.0 h in let p = both.0 in let q = both.1 in signal_eq a.period b.period a.samples b.samples p q,
-     λ e. parts.1 (ap (λ (s : Signal). s.period) e, ap (λ (s : Signal). s.samples) e))
+    let parts = Decides-and (a.period == b.period) (pointwise int_eq a.samples b.samples) (Decides-eqb a.period b.period) (slice_eq-Decides Decides-int_eq a.samples b.samples (pointwise int_eq a.samples b.samples) refl) in (
+      λ h. let both = parts.0 h in let p = both.0 in let q = both.1 in signal_eq a.period b.period a.samples b.samples p q,
+      λ e. parts.1 (ap (λ (s : Signal). s.period) e, ap (λ (s : Signal). s.samples) e),
+    )
   where
     signal_eq : (p q : ℕ) (xs ys : List ℤ) → p ≡ q → xs ≡ ys → let s : Signal = record { period = p; samples = xs } in let t : Signal = record { period = q; samples = ys } in s ≡ t
     signal_eq p q xs ys e f = cc
@@ -55,13 +56,13 @@ AreChanges-push same decides versions x changes other k d below =
     let first : get_or (versions ++ x ∷ []) k d ≡ get_or versions k d = get_or_append_left versions (x ∷ []) d k (omega arith) in
     elim (cases_lt (k + 1) (length versions)) [
       | inl inside ↦
-        let second : get_or (versions ++ x ∷ []) (k + 1) d ≡ get_or versions (k + 1) d = get_or_append_left versions (x ∷ []) d (k + 1) inside in
-        λ e. changes k d inside (sym first ∙ e ∙ second)
+          let second : get_or (versions ++ x ∷ []) (k + 1) d ≡ get_or versions (k + 1) d = get_or_append_left versions (x ∷ []) d (k + 1) inside in
+          λ e. changes k d inside (sym first ∙ e ∙ second)
       | inr end ↦
-        let place : k + 1 ≡ length versions + 0 = omega arith in
-        let here : k ≡ length versions - 1 = omega arith in
-        let second : get_or (versions ++ x ∷ []) (k + 1) d ≡ x = rw place (get_or-append-add versions (x ∷ []) 0 d) in
-        λ e. differs-latest same decides versions x d other (omega arith) (ap (λ n. get_or versions n d) (sym here) ∙ sym first ∙ e ∙ second)
+          let place : k + 1 ≡ length versions + 0 = omega arith in
+          let here : k ≡ length versions - 1 = omega arith in
+          let second : get_or (versions ++ x ∷ []) (k + 1) d ≡ x = rw place (get_or-append-add versions (x ∷ []) 0 d) in
+          λ e. differs-latest same decides versions x d other (omega arith) (ap (λ n. get_or versions n d) (sym here) ∙ sym first ∙ e ∙ second)
     ]
 
 -- no versions differ

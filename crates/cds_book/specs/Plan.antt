@@ -119,6 +119,12 @@ pub record Accepts (tables : TablesState) (change : Change) : Type 0 where
   pub command : IsCommand (command_of change)
   pub accepted : planned tables (command_of change) ≡ Ok (plan.Change change)
 
+-- a change that is answered is one that is planned on these tables
+abbrev pub AnswersAccepted : TablesState → Result Plan PlanError → Type 0
+AnswersAccepted tables (Ok (plan.Change change)) = Accepts tables change
+AnswersAccepted tables (Ok plan.Unchanged) = Unit {0}
+AnswersAccepted tables (Err e) = Unit {0}
+
 -- the room that a change needs
 abbrev pub room_of : Change → Room
 room_of (Trace name signal) = trace_room name

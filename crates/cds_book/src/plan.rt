@@ -1,7 +1,7 @@
 ghost use Rattle.std.specs.Prelude.{◌≡◌, false, option_copied, IsSome};
 ghost use Rattle.std.specs.Option.{option_map_or};
 ghost use Rattle.std.specs.Str.{bytes_eq};
-ghost use Rattle.cds_book.specs.Plan.{planned, applied, counts_of, is_latest, limit_passed, same_signal, Answers, IsCommand};
+ghost use Rattle.cds_book.specs.Plan.{planned, applied, counts_of, is_latest, limit_passed, same_signal, Answers, AnswersAccepted, IsCommand};
 ghost use Rattle.cds_book.specs.Tables.{draft_of};
 ghost use Rattle.cds_book.specs.declared.command.Command.TheVariants as command;
 ghost use Rattle.cds_book.specs.declared.command.Change.TheVariants as change;
@@ -26,7 +26,8 @@ impl Tables {
     /// the first one that is passed is answered. The tables stay as they are.
     pub fn plan(&self, alloc: Global, command: &Command) -> Result<Plan, PlanError>
         requires { IsCommand command.now }
-        ensures { Answers result (planned self.now.state command.now) }
+        ensures value { Answers result (planned self.now.state command.now) }
+        ensures accepted { AnswersAccepted self.now.state result }
     {
         match command {
             Command::Trace { name, trace } => self.plan_trace(alloc, *name, trace),
@@ -80,10 +81,7 @@ impl Tables {
         ensures { result ≡ counts_of (change.Draft name text.now) (applied self.now.state (change.Draft name text.now)) }
     {
         let is_new = self.draft(name).is_none();
-        [(
-            self.methods.len() as u64 + u64::from(is_new),
-            MOST_METHODS,
-        )]
+        [(self.methods.len() as u64 + u64::from(is_new), MOST_METHODS)]
     }
 
     fn plan_freeze(&self, name: Name, version: u32) -> Result<Plan, PlanError>
@@ -123,7 +121,7 @@ impl Tables {
 fn is_latest_trace(versions: &[Trace], trace: &Trace) -> bool
     ensures { result ≡ is_latest same_signal versions.now trace.now }
 {
-    versions.last().is_some_and(|version| is_same(version, trace))
+    versions.last().is_some_and(|last| is_same(last, trace))
 }
 
 // Whether two traces are equal.

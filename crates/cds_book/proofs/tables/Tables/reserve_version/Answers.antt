@@ -28,7 +28,7 @@ invariant_of-self-in-Ok c =
     let after = with_trace_entry c.self.inside c.in-Ok.at e room in
     let same = HoldsSame-trace_entry c.self.inside c.in-Ok.at c.index_mut.result.now e room c.index_mut.ensures.value refl c.reserve.ensures.items in
     IsHeld-HoldsSame c.self.inside after same c.self.invariant
-        (HasRoom-version c.self.inside c.in-Ok.at c.index_mut.result.now e room c.index_mut.ensures.value refl c.reserve.ensures.items c.deref.result.now c.args.name c.deref.ensures.value c.in-Ok.ensures.found c.in_ok-reserve-in-Ok.ensures.ok)
+    (HasRoom-version c.self.inside c.in-Ok.at c.index_mut.result.now e room c.index_mut.ensures.value refl c.reserve.ensures.items c.deref.result.now c.args.name c.deref.ensures.value c.in-Ok.ensures.found c.in_ok-reserve-in-Ok.ensures.ok)
 
 pub returns-in_ok-reserve-in-Ok-clause-state : goal.returns-in_ok-reserve-in-Ok-clause-state
 returns-in_ok-reserve-in-Ok-clause-state c =
