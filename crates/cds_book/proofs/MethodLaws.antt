@@ -40,7 +40,7 @@ unfolding applied
 applied-freeze t name version draft is = rw is refl
 
 module _ (t : TablesState) (name draft : List ℕ) (versions : List (List ℕ)) where
-  method_named-with : method_named (with_method t name draft versions) name ≡ Some (record { name = name; draft = draft; versions = versions })
+  pub method_named-with : method_named (with_method t name draft versions) name ≡ Some (record { name = name; draft = draft; versions = versions })
   method_named-with = named-placed method_name t.methods (record { name = name; draft = draft; versions = versions })
 
   -- a method that was put has the draft and the versions that were put
@@ -218,11 +218,13 @@ counts-freeze t kept name version draft is =
     let same : length (texts_of (with_method t name draft texts) name) ≡ length (texts_of t name) + 1 = ap length (texts_of-with t name draft texts) ∙ grown in
     rw (applied-freeze t name version draft is, same, method_versions-with t kept name draft texts 1 grown) refl
 
--- what an accepted freeze is: of a draft that isn't the latest version, whose counts are within the limits
+-- what an accepted freeze is: of a draft that isn't the latest version, under the next number, and its counts are
+-- within the limits
 pub record IsNewText (t : TablesState) (name : List ℕ) (version : ℕ) : Type 0 where
   pub draft : List ℕ
   pub is : draft_of t name ≡ Some draft
   pub other : is_latest bytes_eq (texts_of t name) draft ≡ false
+  pub next : version ≡ length (texts_of t name) + 1
   pub within : AreWithin (counts_of (change.Freeze name version) (applied t (change.Freeze name version)))
 
 pub IsNewText-accepted : (t : TablesState) (name : List ℕ) (version : ℕ) → Accepts t (change.Freeze name version) → IsNewText t name version
@@ -240,6 +242,7 @@ IsNewText-accepted t name version accepts = by_draft (draft_of t name) refl
           draft = draft;
           is = is;
           other = other;
+          next = next;
           within = AreWithin-none counts (unless_full-ok _ (change.Freeze name version) (sym answer ∙ accepts.accepted));
         }
 
