@@ -1,7 +1,6 @@
 -- What the tables are once a draft is put or frozen: its texts, the counts, and that all rules are kept.
-use Rattle.std.proofs.Common.{◌≡◌, ◌∙◌, ℕ, ◌+◌, ◌<◌, ◌≤◌, ◌==◌, Bool, true, false, inl, inr, List, [], ◌∷◌, ◌++◌, length, map, Option, Some, None, Result, Ok, Err, option_map, unwrap_or, refl, sym, ap, ap₂, subst, arith}
-use Rattle.std.specs.Prelude.{All, if◌then◌else◌, is_none, ◌⊎◌}
-use Rattle.std.specs.List.{sum_by}
+use Rattle.std.proofs.Common.{◌≡◌, ◌∙◌, ℕ, ◌+◌, ◌≤◌, ◌==◌, Bool, true, false, inl, inr, List, [], ◌∷◌, ◌++◌, length, Option, Some, None, Ok, Err, option_map, unwrap_or, refl, sym, ap, ap₂, subst, arith}
+use Rattle.std.specs.Prelude.{All, is_none, ◌⊎◌}
 use Rattle.std.specs.Option.{option_map_or}
 use Rattle.std.specs.Str.{bytes_eq}
 use Rattle.std.proofs.lemmas.Bool.{cases_Bool, cases_eq}
@@ -10,14 +9,11 @@ use Rattle.std.proofs.lemmas.List.{length-append}
 use Rattle.std.proofs.lemmas.List.Elements.{All-nil, All-push}
 use Rattle.std.proofs.lemmas.Slice.Eq.{bytes_eq-Decides}
 use Rattle.cds_book.specs.Kept.{AreChanges, IsMethod, IsMethodEntry, IsTables, method_versions_in_all}
-use Rattle.cds_book.specs.Places.{named, placed, AreRising}
-use Rattle.cds_book.specs.Plan.{planned, applied, with_method, with_frozen, freeze_planned, counts_of, limit_passed, within_limits, unless_full, is_latest, Accepts}
+use Rattle.cds_book.specs.Plan.{planned, applied, with_method, freeze_planned, counts_of, limit_passed, unless_full, is_latest, Accepts}
 use Rattle.cds_book.specs.Tables.{NamedMethod, TablesState, method_named, draft_of, texts_of}
 use Rattle.cds_book.specs.declared.command.Command.TheVariants as command
 use Rattle.cds_book.specs.declared.command.Change.TheVariants as change
-use Rattle.cds_book.specs.declared.command.Plan.{Plan}
 use Rattle.cds_book.specs.declared.command.Plan.TheVariants as plan
-use Rattle.cds_book.specs.declared.error.PlanError.{PlanError}
 use Rattle.cds_book.specs.declared.error.PlanError.TheVariants.{NoMethod, Number}
 use Rattle.cds_book.specs.declared.limits.TheConstants.{MOST_VERSIONS, MOST_METHODS, MOST_METHOD_VERSIONS}
 use Rattle.cds_book.proofs.PlaceLaws.{named-placed, named-All, All-placed, AreRising-placed, sum_by-placed, length-placed, bytes_eq-self}
