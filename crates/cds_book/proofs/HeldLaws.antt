@@ -1,5 +1,5 @@
 -- What is kept of tables as they are held: the counts, and the rules of the tables after a change.
-use Rattle.std.proofs.Common.{◌≡◌, ◌∙◌, ℕ, zero, suc, ◌+◌, ◌<◌, ◌≤◌, ◌==◌, Bool, true, false, not, Bor, List, [], ◌∷◌, ◌++◌, length, get_or, set, take, drop, map, vec_len, Option, Some, None, option_map, Vec, Global, refl, sym, ap, ap₂, subst, arith}
+use Rattle.std.proofs.Common.{◌≡◌, ◌∙◌, ℕ, suc, ◌+◌, ◌==◌, Bool, true, false, not, Bor, List, [], ◌∷◌, ◌++◌, length, get_or, set, take, drop, map, vec_len, Option, Some, None, option_map, Vec, Global, refl, sym, ap, ap₂, subst, arith}
 use Rattle.std.specs.Prelude.{IfSome, IsSome, is_none, is_some, option_copied}
 use Rattle.std.specs.List.{insert, HoldsAt}
 use Rattle.std.proofs.lemmas.Bool.Decides.{nat_tests}
@@ -21,7 +21,7 @@ use Rattle.cds_book.specs.declared.tables.Tables.TheInside.{Inside}
 use Rattle.cds_book.proofs.PlaceLaws.{placed-stands, placed-gap}
 use Rattle.cds_book.proofs.LookLaws.{traces_named-at, traces_named-gap, signals_of-found, method_named-at, method_named-gap, texts_of-found, draft_of-found}
 use Rattle.cds_book.proofs.TraceLaws.{trace_name, new_name, applied-trace, counts-trace, trace_versions-trace, samples-trace, IsTables-trace}
-use Rattle.cds_book.proofs.MethodLaws.{method_name, applied-draft, applied-freeze, counts-draft, counts-freeze, method_versions-with}
+use Rattle.cds_book.proofs.MethodLaws.{method_name, counts-draft, counts-freeze, method_versions-with}
 use mir.Val.{bool_byte}
 
 -- a name is new where it has no versions

@@ -4,5 +4,6 @@ pub mod VersionLaws
 pub mod TraceLaws
 pub mod MethodLaws
 pub mod PlanLaws
+pub mod StayLaws
 pub mod HeldLaws
 pub mod RoomLaws

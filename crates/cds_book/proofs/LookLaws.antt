@@ -2,7 +2,6 @@
 use Rattle.std.proofs.Common.{◌≡◌, ◌∙◌, ℕ, List, [], length, get_or, map, Option, Some, None, option_map, unwrap_or, sym, ap, subst, arith, ◌<◌}
 use Rattle.std.specs.Option.{option_and_then}
 use Rattle.std.proofs.lemmas.List.{get_or-map, length-map}
-use Rattle.cds_trace.specs.Signal.{Signal}
 use Rattle.cds_book.specs.Held.{traces_shown, method_shown, tables_held, IsTraceAt, IsTraceGap, IsMethodAt, IsMethodGap, IsHeld}
 use Rattle.cds_book.specs.Kept.{IsTraceEntry, IsMethodEntry}
 use Rattle.cds_book.specs.Places.{named, StandsAt}

@@ -1,7 +1,6 @@
 -- What the tables are once a draft is put or frozen: its texts, the counts, and that all rules are kept.
-use Rattle.std.proofs.Common.{◌≡◌, ◌∙◌, ℕ, ◌+◌, ◌<◌, ◌≤◌, ◌==◌, Bool, true, false, inl, inr, List, [], ◌∷◌, ◌++◌, length, map, Option, Some, None, Result, Ok, Err, option_map, unwrap_or, refl, sym, ap, ap₂, subst, arith}
-use Rattle.std.specs.Prelude.{All, if◌then◌else◌, is_none, ◌⊎◌}
-use Rattle.std.specs.List.{sum_by}
+use Rattle.std.proofs.Common.{◌≡◌, ◌∙◌, ℕ, ◌+◌, ◌≤◌, ◌==◌, Bool, true, false, inl, inr, List, [], ◌∷◌, ◌++◌, length, Option, Some, None, Ok, Err, option_map, unwrap_or, refl, sym, ap, ap₂, subst, arith}
+use Rattle.std.specs.Prelude.{All, is_none, ◌⊎◌}
 use Rattle.std.specs.Option.{option_map_or}
 use Rattle.std.specs.Str.{bytes_eq}
 use Rattle.std.proofs.lemmas.Bool.{cases_Bool, cases_eq}
@@ -10,14 +9,11 @@ use Rattle.std.proofs.lemmas.List.{length-append}
 use Rattle.std.proofs.lemmas.List.Elements.{All-nil, All-push}
 use Rattle.std.proofs.lemmas.Slice.Eq.{bytes_eq-Decides}
 use Rattle.cds_book.specs.Kept.{AreChanges, IsMethod, IsMethodEntry, IsTables, method_versions_in_all}
-use Rattle.cds_book.specs.Places.{named, placed, AreRising}
-use Rattle.cds_book.specs.Plan.{planned, applied, with_method, with_frozen, freeze_planned, counts_of, limit_passed, within_limits, unless_full, is_latest, Accepts}
+use Rattle.cds_book.specs.Plan.{planned, applied, with_method, freeze_planned, counts_of, limit_passed, unless_full, is_latest, Accepts}
 use Rattle.cds_book.specs.Tables.{NamedMethod, TablesState, method_named, draft_of, texts_of}
 use Rattle.cds_book.specs.declared.command.Command.TheVariants as command
 use Rattle.cds_book.specs.declared.command.Change.TheVariants as change
-use Rattle.cds_book.specs.declared.command.Plan.{Plan}
 use Rattle.cds_book.specs.declared.command.Plan.TheVariants as plan
-use Rattle.cds_book.specs.declared.error.PlanError.{PlanError}
 use Rattle.cds_book.specs.declared.error.PlanError.TheVariants.{NoMethod, Number}
 use Rattle.cds_book.specs.declared.limits.TheConstants.{MOST_VERSIONS, MOST_METHODS, MOST_METHOD_VERSIONS}
 use Rattle.cds_book.proofs.PlaceLaws.{named-placed, named-All, All-placed, AreRising-placed, sum_by-placed, length-placed, bytes_eq-self}
@@ -40,7 +36,7 @@ unfolding applied
 applied-freeze t name version draft is = rw is refl
 
 module _ (t : TablesState) (name draft : List ℕ) (versions : List (List ℕ)) where
-  method_named-with : method_named (with_method t name draft versions) name ≡ Some (record { name = name; draft = draft; versions = versions })
+  pub method_named-with : method_named (with_method t name draft versions) name ≡ Some (record { name = name; draft = draft; versions = versions })
   method_named-with = named-placed method_name t.methods (record { name = name; draft = draft; versions = versions })
 
   -- a method that was put has the draft and the versions that were put
@@ -218,11 +214,13 @@ counts-freeze t kept name version draft is =
     let same : length (texts_of (with_method t name draft texts) name) ≡ length (texts_of t name) + 1 = ap length (texts_of-with t name draft texts) ∙ grown in
     rw (applied-freeze t name version draft is, same, method_versions-with t kept name draft texts 1 grown) refl
 
--- what an accepted freeze is: of a draft that isn't the latest version, whose counts are within the limits
+-- what an accepted freeze is: of a draft that isn't the latest version, under the next number, and its counts are
+-- within the limits
 pub record IsNewText (t : TablesState) (name : List ℕ) (version : ℕ) : Type 0 where
   pub draft : List ℕ
   pub is : draft_of t name ≡ Some draft
   pub other : is_latest bytes_eq (texts_of t name) draft ≡ false
+  pub next : version ≡ length (texts_of t name) + 1
   pub within : AreWithin (counts_of (change.Freeze name version) (applied t (change.Freeze name version)))
 
 pub IsNewText-accepted : (t : TablesState) (name : List ℕ) (version : ℕ) → Accepts t (change.Freeze name version) → IsNewText t name version
@@ -240,6 +238,7 @@ IsNewText-accepted t name version accepts = by_draft (draft_of t name) refl
           draft = draft;
           is = is;
           other = other;
+          next = next;
           within = AreWithin-none counts (unless_full-ok _ (change.Freeze name version) (sym answer ∙ accepts.accepted));
         }
 

@@ -1,16 +1,16 @@
 -- What stands under a name among entries whose names rise, and what becomes of them when an entry is placed.
-use Rattle.std.proofs.Common.{◌≡◌, ◌∙◌, ℕ, zero, suc, ◌+◌, ◌-◌, ◌<◌, ◌≤◌, Bool, true, false, cond, inl, inr, List, [], ◌∷◌, ◌++◌, length, get_or, set, take, drop, map, Option, Some, None, Result, Ok, Err, IfOk, IfErr, refl, sym, ap, ap₂, subst, arith, rules, is_eq, is_lt, is_gt, Less, Equal, Greater, Ordering, append-nil, append_assoc, take-append-drop, length-set}
+use Rattle.std.proofs.Common.{◌≡◌, ◌∙◌, ℕ, zero, suc, ◌+◌, ◌-◌, ◌<◌, ◌≤◌, Bool, true, false, cond, inl, inr, List, [], ◌∷◌, ◌++◌, length, get_or, set, take, drop, map, Option, Some, None, Result, Ok, Err, IfOk, IfErr, refl, sym, ap, ap₂, subst, arith, is_eq, is_lt, is_gt, Less, Equal, Greater, Ordering, append-nil, append_assoc, take-append-drop, length-set}
 use Rattle.std.specs.Prelude.{All, ◌⊎◌}
-use Rattle.std.specs.List.{filter, find, insert, sum_by, HoldsAt, AllWithin}
+use Rattle.std.specs.List.{filter, find, insert, sum_by, HoldsAt}
 use Rattle.std.specs.List.Sorted.{IsStrictlySortedBy, IsSearchInRange, IsBinarySearchResult, IsSortedBy}
 use Rattle.std.specs.Option.{option_map_or, option_or}
 use Rattle.std.specs.Ordering.{ordering_reverse}
 use Rattle.std.specs.Str.{bytes_eq}
-use Rattle.std.proofs.lemmas.Bool.{cases_lt, cases_eq}
+use Rattle.std.proofs.lemmas.Bool.{cases_lt, cases_eq, false≢true}
 use Rattle.std.proofs.lemmas.Cmp.{nat_list_cmp_total, tied_itself}
-use Rattle.std.proofs.lemmas.List.{take-map, drop-map, length-map, map-append, drop_more, take-set, drop-set, get_or-map, length-append, get_or-take, get_or-drop, length-take-le, length-drop}
+use Rattle.std.proofs.lemmas.List.{take-map, drop-map, length-map, map-append, drop_more, take-set, drop-set, get_or-map, get_or-take, get_or-drop, length-take-le, length-drop}
 use Rattle.std.proofs.lemmas.List.Edits.{length-insert}
-use Rattle.std.proofs.lemmas.List.Elements.{All-head, All-tail, All-cons, All-nil, All-weaker, All-append, All-filter, All-map, All-take, All-drop, filter-append, filter_passes, recursion_from_All}
+use Rattle.std.proofs.lemmas.List.Elements.{All-head, All-tail, All-cons, All-nil, All-weaker, All-append, All-filter, All-map, filter-append, filter_passes, recursion_from_All}
 use Rattle.std.proofs.lemmas.List.Folds.{find-append}
 use Rattle.std.proofs.lemmas.List.Kept.{IsStrictlySortedBy-filter}
 use Rattle.std.proofs.lemmas.List.Sorted.{searchable_from_sorted}
@@ -63,6 +63,28 @@ module _ {X : Type 0} (p : X → Bool) where
       let here : p x ≡ false = All-head (λ y. p y ≡ false) x xs none in
       rw here (find-none xs (All-tail (λ y. p y ≡ false) x xs none))
 
+  -- a search among what a filter passes, where it passes all that is sought
+  find-filter_all : (q : X → Bool) → ((x : X) → p x ≡ true → q x ≡ true) → (xs : List X) → find p (filter q xs) ≡ find p xs
+  find-filter_all q passes [] = refl
+  find-filter_all q passes (x ∷ xs) = by_test (p x) (q x) refl refl (find-filter_all q passes xs)
+    where
+      by_test : (b d : Bool) → p x ≡ b → q x ≡ d → find p (filter q xs) ≡ find p xs → find p (cond d (x ∷ filter q xs) (filter q xs)) ≡ cond b (Some x) (find p xs)
+      by_test true true is kept rest = rw is refl
+      by_test true false is kept rest = absurd (false≢true (sym kept ∙ passes x is))
+      by_test false true is kept rest = rw is rest
+      by_test false false is kept rest = rest
+
+  -- and where it passes nothing that is sought
+  find-filter_none : (q : X → Bool) → ((x : X) → p x ≡ true → q x ≡ false) → (xs : List X) → find p (filter q xs) ≡ None
+  find-filter_none q fails [] = refl
+  find-filter_none q fails (x ∷ xs) = by_test (p x) (q x) refl refl (find-filter_none q fails xs)
+    where
+      by_test : (b d : Bool) → p x ≡ b → q x ≡ d → find p (filter q xs) ≡ None → find p (cond d (x ∷ filter q xs) (filter q xs)) ≡ None
+      by_test true true is kept rest = absurd (false≢true (sym (fails x is) ∙ kept))
+      by_test false true is kept rest = rw is rest
+      by_test true false is kept rest = rest
+      by_test false false is kept rest = rest
+
   -- a filter that passes a front alone
   filter-front : (xs ys : List X) → All (λ x. p x ≡ true) xs → All (λ x. p x ≡ false) ys → filter p (xs ++ ys) ≡ xs
   filter-front xs ys all none = filter-append p xs ys ∙ ap₂ ◌++◌ (filter-all xs all) (filter-none ys none) ∙ append-nil xs
@@ -70,6 +92,11 @@ module _ {X : Type 0} (p : X → Bool) where
   -- a filter that passes a back alone
   filter-back : (xs ys : List X) → All (λ x. p x ≡ false) xs → All (λ x. p x ≡ true) ys → filter p (xs ++ ys) ≡ ys
   filter-back xs ys none all = filter-append p xs ys ∙ ap₂ ◌++◌ (filter-none xs none) (filter-all ys all)
+
+-- one answer or none
+option_or-none : {X : Type 0} (o : Option X) → option_or o None ≡ o
+option_or-none None = refl
+option_or-none (Some x) = refl
 
 -- all of a mapped list is all of the list
 All-unmap : {X Y : Type 0} (P : Y → Type 0) (f : X → Y) (xs : List X) → All P (map f xs) → All (λ x. P (f x)) xs
@@ -218,6 +245,30 @@ module _ {E : Type 0} (name_of : E → List ℕ) where
           let one : e ≡ found = cc in
           subst P one (All-head P e es all)
       by_test false other rest = rest (rw other at is)
+
+  -- an entry of another name that was placed leaves what stands under a name
+  pub named-placed_other : (entries : List E) (entry : E) (name : List ℕ) → bytes_eq (name_of entry) name ≡ false → named name_of (placed name_of entries entry) name ≡ named name_of entries name
+  named-placed_other entries entry name other = by_order (byte_cmp name (name_of entry)) refl
+    where
+      order_of : (o : Ordering) → byte_cmp name (name_of entry) ≡ o → (e : E) → bytes_eq (name_of e) name ≡ true → byte_cmp (name_of e) (name_of entry) ≡ o
+      order_of o is e same = ap (λ n. byte_cmp n (name_of entry)) ((bytes_eq-Decides (name_of e) name).0 same) ∙ is
+
+      passed : find (λ e. bytes_eq (name_of e) name) (entry ∷ filter (λ e. is_gt (byte_cmp (name_of e) (name_of entry))) entries) ≡ find (λ e. bytes_eq (name_of e) name) (filter (λ e. is_gt (byte_cmp (name_of e) (name_of entry))) entries)
+      passed = rw other refl
+
+      joined : find (λ e. bytes_eq (name_of e) name) (placed name_of entries entry) ≡ option_or (find (λ e. bytes_eq (name_of e) name) (filter (λ e. is_lt (byte_cmp (name_of e) (name_of entry))) entries)) (find (λ e. bytes_eq (name_of e) name) (filter (λ e. is_gt (byte_cmp (name_of e) (name_of entry))) entries))
+      joined = find-append (λ e. bytes_eq (name_of e) name) (filter (λ e. is_lt (byte_cmp (name_of e) (name_of entry))) entries) (entry ∷ filter (λ e. is_gt (byte_cmp (name_of e) (name_of entry))) entries) ∙ ap (option_or (find (λ e. bytes_eq (name_of e) name) (filter (λ e. is_lt (byte_cmp (name_of e) (name_of entry))) entries))) passed
+
+      by_order : (o : Ordering) → byte_cmp name (name_of entry) ≡ o → find (λ e. bytes_eq (name_of e) name) (placed name_of entries entry) ≡ find (λ e. bytes_eq (name_of e) name) entries
+      by_order Less is = joined ∙ ap₂ option_or
+          (find-filter_all (λ e. bytes_eq (name_of e) name) (λ e. is_lt (byte_cmp (name_of e) (name_of entry))) (λ e same. ap is_lt (order_of Less is e same)) entries)
+          (find-filter_none (λ e. bytes_eq (name_of e) name) (λ e. is_gt (byte_cmp (name_of e) (name_of entry))) (λ e same. ap is_gt (order_of Less is e same)) entries) ∙ option_or-none (find (λ e. bytes_eq (name_of e) name) entries)
+      by_order Greater is = joined ∙ ap₂ option_or
+          (find-filter_none (λ e. bytes_eq (name_of e) name) (λ e. is_lt (byte_cmp (name_of e) (name_of entry))) (λ e same. ap is_lt (order_of Greater is e same)) entries)
+          (find-filter_all (λ e. bytes_eq (name_of e) name) (λ e. is_gt (byte_cmp (name_of e) (name_of entry))) (λ e same. ap is_gt (order_of Greater is e same)) entries)
+      by_order Equal is =
+          let same : bytes_eq (name_of entry) name ≡ true = (bytes_eq-Decides (name_of entry) name).1 (sym (byte_cmp-equal name (name_of entry) is)) in
+          absurd (false≢true (sym other ∙ same))
 
   -- what is kept of each entry is kept when one is placed
   pub All-placed : (P : E → Type 0) (entries : List E) (entry : E) → All P entries → P entry → All P (placed name_of entries entry)

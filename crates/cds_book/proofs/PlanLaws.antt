@@ -1,11 +1,9 @@
 -- What holds of every change: it is that of its command, it keeps the rules, and repeating it changes nothing.
-use Rattle.std.proofs.Common.{◌≡◌, ◌∙◌, ℕ, ◌+◌, Bool, true, false, cond, ◌==◌, inl, inr, List, length, Option, Some, None, Result, Ok, Err, refl, sym, ap, subst}
+use Rattle.std.proofs.Common.{◌≡◌, ◌∙◌, ℕ, ◌+◌, Bool, true, false, cond, ◌==◌, List, length, Option, Some, None, Result, Ok, Err, sym, ap, subst}
 use Rattle.std.specs.Option.{option_map_or}
 use Rattle.std.specs.Str.{bytes_eq}
-use Rattle.std.proofs.lemmas.Bool.{cases_Bool, cases_eq}
-use Rattle.cds_trace.specs.Signal.{Signal}
 use Rattle.cds_book.specs.Kept.{IsTables}
-use Rattle.cds_book.specs.Plan.{planned, applied, counts_of, limit_passed, unless_full, within_limits, freeze_planned, same_signal, is_latest, command_of, Answers, AnswersAccepted, IsCommand, Accepts}
+use Rattle.cds_book.specs.Plan.{planned, applied, counts_of, limit_passed, unless_full, freeze_planned, same_signal, is_latest, command_of, Answers, AnswersAccepted, IsCommand, Accepts}
 use Rattle.cds_book.specs.Tables.{TablesState, signals_of, draft_of, texts_of}
 use Rattle.cds_book.specs.declared.command.Command.{Command}
 use Rattle.cds_book.specs.declared.command.Command.TheVariants as command

@@ -1,5 +1,5 @@
 -- Taking room leaves what the tables hold.
-use Rattle.std.proofs.Common.{◌≡◌, ◌∙◌, ℕ, ◌+◌, ◌<◌, ◌≤◌, List, [], length, get_or, set, map, vec_len, vec_capacity, Option, Some, None, option_map, Vec, Global, refl, sym, ap, subst, arith, get_or-set_same}
+use Rattle.std.proofs.Common.{◌≡◌, ◌∙◌, ℕ, ◌+◌, ◌<◌, ◌≤◌, List, [], length, get_or, set, map, vec_len, vec_capacity, Option, Some, None, option_map, refl, sym, ap, subst, arith, get_or-set_same}
 use Rattle.std.specs.Prelude.{IfSome, IsSome}
 use Rattle.std.specs.List.{HoldsAt}
 use Rattle.std.specs.Vec.{with_item}
@@ -7,7 +7,6 @@ use Rattle.std.proofs.Math.Seq.{map-set_same}
 use Rattle.std.specs.List.Sorted.{IsStrictlySortedBy}
 use Rattle.std.proofs.lemmas.List.{length-map, get_or_default}
 use Rattle.std.proofs.lemmas.List.Elements.{All-nil}
-use Rattle.cds_trace.specs.Signal.{Signal}
 use Rattle.cds_book.specs.Held.{traces_shown, method_shown, room_shown, state_held, tables_held, IsHeld, HasRoom, IsTraceAt, IsMethodAt, IsMethodGap}
 use Rattle.cds_book.specs.Kept.{IsTables, IsTraceEntry, IsMethodEntry, trace_versions_in_all, samples_in_all, method_versions_in_all}
 use Rattle.cds_book.specs.Places.{StandsAt}

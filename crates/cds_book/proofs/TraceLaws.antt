@@ -1,6 +1,5 @@
 -- What the tables are once a trace is put: its versions, the counts, and that all rules are kept.
-use Rattle.std.proofs.Common.{◌≡◌, ◌∙◌, ℕ, zero, suc, ◌+◌, ◌<◌, ◌≤◌, Bool, true, false, inl, inr, List, [], ◌∷◌, ◌++◌, length, map, Option, Some, None, Ok, option_map, unwrap_or, refl, sym, ap, ap₂, subst, arith}
-use Rattle.std.specs.Prelude.{All, if◌then◌else◌}
+use Rattle.std.proofs.Common.{◌≡◌, ◌∙◌, ℕ, ◌+◌, ◌≤◌, true, false, inl, inr, List, [], ◌∷◌, ◌++◌, length, Option, Some, None, Ok, option_map, unwrap_or, refl, sym, ap, subst, arith}
 use Rattle.std.specs.List.{sum_by}
 use Rattle.std.specs.Option.{option_map_or}
 use Rattle.std.proofs.lemmas.Bool.{cases_Bool}
@@ -8,8 +7,7 @@ use Rattle.std.proofs.lemmas.List.{length-append}
 use Rattle.std.proofs.lemmas.List.Sums.{sum_by-append}
 use Rattle.cds_trace.specs.Signal.{Signal}
 use Rattle.cds_book.specs.Kept.{AreChanges, IsTraceEntry, IsTables, trace_versions_in_all, samples_in_all}
-use Rattle.cds_book.specs.Places.{named, placed, AreRising}
-use Rattle.cds_book.specs.Plan.{planned, applied, with_signals, counts_of, limit_passed, within_limits, unless_full, same_signal, is_latest, Accepts}
+use Rattle.cds_book.specs.Plan.{planned, applied, with_signals, counts_of, limit_passed, unless_full, same_signal, is_latest, Accepts}
 use Rattle.cds_book.specs.Tables.{NamedTraces, TablesState, traces_named, signals_of}
 use Rattle.cds_book.specs.declared.command.Command.TheVariants as command
 use Rattle.cds_book.specs.declared.command.Change.TheVariants as change

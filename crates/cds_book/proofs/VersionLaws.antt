@@ -1,23 +1,20 @@
 -- Lists of versions, equal versions, and limits.
-use Rattle.std.proofs.Common.{◌≡◌, ◌∙◌, ℕ, zero, suc, ◌+◌, ◌-◌, ◌*◌, ◌<◌, ◌≤◌, ◌==◌, ◌&&◌, Bool, true, false, cond, ℤ, inl, inr, List, [], ◌∷◌, ◌++◌, length, get_or, Option, Some, None, Result, Ok, Err, option_map, refl, sym, ap, subst, arith, slice_get, int_eq, ltb}
-use Rattle.std.specs.Prelude.{◌≢◌, All}
+use Rattle.std.proofs.Common.{◌≡◌, ◌∙◌, ℕ, ◌+◌, ◌-◌, ◌<◌, ◌≤◌, ◌==◌, Bool, true, false, ℤ, inl, inr, List, [], ◌∷◌, ◌++◌, length, get_or, Option, Some, None, Ok, refl, sym, ap, arith, int_eq, ltb}
+use Rattle.std.specs.Prelude.{◌≢◌}
 use Rattle.std.specs.Bool.{Decides}
 use Rattle.std.specs.Cmp.Lexicographic.{pointwise}
-use Rattle.std.specs.List.{find, AllAdjacentBelow}
 use Rattle.std.specs.Option.{option_map_or}
-use Rattle.std.proofs.lemmas.Bool.{cases_lt, cases_Bool, false≢true}
+use Rattle.std.proofs.lemmas.Bool.{cases_lt, false≢true}
 use Rattle.std.proofs.lemmas.Bool.Decides.{Decides-int_eq, Decides-eqb, Decides-and, nat_tests}
 use Rattle.std.proofs.lemmas.List.{get_or_append_left, get_or-append-add, length-append}
-use Rattle.std.proofs.lemmas.Option.{slice_get-get_or, slice_get_past}
-use Rattle.std.proofs.lemmas.Slice.Eq.{slice_eq-Decides, bytes_eq-Decides}
+use Rattle.std.proofs.lemmas.Option.{slice_get-get_or}
+use Rattle.std.proofs.lemmas.Slice.Eq.{slice_eq-Decides}
 use Rattle.cds_trace.specs.Signal.{Signal}
 use Rattle.cds_book.specs.Kept.{AreChanges}
 use Rattle.cds_book.specs.Plan.{limit_passed, unless_full, same_signal, is_latest}
-use Rattle.cds_book.specs.Tables.{latest, numbered}
+use Rattle.cds_book.specs.Tables.{latest}
 use Rattle.cds_book.specs.declared.command.Change.{Change}
-use Rattle.cds_book.specs.declared.command.Plan.{Plan}
 use Rattle.cds_book.specs.declared.command.Plan.TheVariants as plan
-use Rattle.cds_book.specs.declared.error.PlanError.{PlanError}
 
 -- whether two traces are equal
 pub same_signal-Decides : (a b : Signal) → Decides (same_signal a b) (a ≡ b)

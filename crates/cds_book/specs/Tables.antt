@@ -1,6 +1,6 @@
 -- What the system holds: traces under their names in versions, and methods with their drafts and frozen versions.
 -- Versions are numbered from 1. This project's own.
-use Rattle.std.specs.Prelude.{ℕ, ◌-◌, ◌==◌, List, [], Option, Some, None, length, slice_get, option_map, unwrap_or, if◌then◌else◌}
+use Rattle.std.specs.Prelude.{ℕ, ◌-◌, ◌==◌, List, [], Option, None, length, slice_get, option_map, unwrap_or, if◌then◌else◌}
 use Rattle.std.specs.Option.{option_and_then}
 use Rattle.cds_trace.specs.Signal.{Signal}
 use Rattle.cds_book.specs.Places.{named}

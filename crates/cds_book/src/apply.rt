@@ -88,7 +88,8 @@ impl Tables {
         let Some(Taken::Freeze { at, text, .. }) = self.room.take() else {
             unreachable!()
         };
-        let Ok(()) = self.methods[at].versions.push(text) else {
+        let method = &mut self.methods[at];
+        let Ok(()) = method.versions.push(text) else {
             unreachable!()
         };
     }

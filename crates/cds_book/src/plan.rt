@@ -121,9 +121,7 @@ impl Tables {
 fn is_latest_trace(versions: &[Trace], trace: &Trace) -> bool
     ensures { result ≡ is_latest same_signal versions.now trace.now }
 {
-    versions
-        .last()
-        .is_some_and(|version| is_same(version, trace))
+    versions.last().is_some_and(|last| is_same(last, trace))
 }
 
 // Whether two traces are equal.

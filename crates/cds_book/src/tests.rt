@@ -16,7 +16,10 @@ const METHOD: &str =
 enum Told {
     Changed,
     Unchanged,
-    Refused(PlanError),
+    NoMethod,
+    Number(u32),
+    Full(u64),
+    NoMemory,
 }
 
 // Plans a command, and carries its change out.
@@ -30,8 +33,20 @@ fn carry_out(alloc: Global, tables: &mut Tables, command: &Command) -> Result<To
             tables.apply(change);
             Ok(Told::Changed)
         }
-        Err(error) => Ok(Told::Refused(error)),
+        Err(PlanError::NoMethod(_)) => Ok(Told::NoMethod),
+        Err(PlanError::Number(next)) => Ok(Told::Number(next)),
+        Err(PlanError::Full(limit)) => Ok(Told::Full(limit)),
+        Err(PlanError::NoMemory) => Ok(Told::NoMemory),
     }
+}
+
+// That a command changed the tables.
+fn changed(told: Told) -> Result<(), Fail> {
+    Ok(
+        (told == Told::Changed)
+            .then_some(())
+            .ok_or("nothing changed")?,
+    )
 }
 
 // Puts a trace of these samples.
@@ -109,7 +124,7 @@ fn a_draft_is_frozen_edited_and_frozen_again(rt: HostRuntime) -> Result<(), Fail
     let m = name("m")?;
     let first = method(alloc, 3)?;
     let second = method(alloc, 4)?;
-    let absent = Told::Refused(PlanError::NoMethod(m));
+    let absent = Told::NoMethod;
     assert_eq!(rt; freeze(alloc, &mut tables, m, 1)?, absent);
     assert_eq!(rt;
         draft(alloc, &mut tables, m, first.as_str())?,
@@ -120,20 +135,14 @@ fn a_draft_is_frozen_edited_and_frozen_again(rt: HostRuntime) -> Result<(), Fail
         Told::Unchanged
     );
     assert_eq!(rt; tables.method_versions(m), Some(0));
-    assert_eq!(rt;
-        freeze(alloc, &mut tables, m, 2)?,
-        Told::Refused(PlanError::Number(1))
-    );
+    assert_eq!(rt; freeze(alloc, &mut tables, m, 2)?, Told::Number(1));
     assert_eq!(rt; freeze(alloc, &mut tables, m, 1)?, Told::Changed);
     assert_eq!(rt; freeze(alloc, &mut tables, m, 7)?, Told::Unchanged);
     assert_eq!(rt;
         draft(alloc, &mut tables, m, second.as_str())?,
         Told::Changed
     );
-    assert_eq!(rt;
-        freeze(alloc, &mut tables, m, 3)?,
-        Told::Refused(PlanError::Number(2))
-    );
+    assert_eq!(rt; freeze(alloc, &mut tables, m, 3)?, Told::Number(2));
     assert_eq!(rt; freeze(alloc, &mut tables, m, 2)?, Told::Changed);
     assert_eq!(rt; tables.method_versions(m), Some(2));
     assert_eq!(rt; tables.method(m, 1), Some(first.as_bytes()));
@@ -155,7 +164,7 @@ fn trace_names_are_at_most_5000(rt: HostRuntime) -> Result<(), Fail> {
         let name = numbered_name(alloc, number)?;
         assert_eq!(rt; put(alloc, &mut tables, name, &[7, 7])?, Told::Changed);
     }
-    let full = Told::Refused(PlanError::Full(5000));
+    let full = Told::Full(5000);
     assert_eq!(rt; put(alloc, &mut tables, name("more")?, &[7, 7])?, full);
     assert_eq!(rt;
         put(alloc, &mut tables, name("n7")?, &[7, 8])?,
@@ -176,13 +185,13 @@ fn trace_versions_are_at_most_1000_and_10000_in_all(rt: HostRuntime) -> Result<(
             assert_eq!(rt; told, Told::Changed);
         }
     }
-    let full = Told::Refused(PlanError::Full(1000));
+    let full = Told::Full(1000);
     assert_eq!(rt; put(alloc, &mut tables, name("n0")?, &[7, 7])?, full);
     assert_eq!(rt;
         put(alloc, &mut tables, name("n0")?, &[999, 7])?,
         Told::Unchanged
     );
-    let full = Told::Refused(PlanError::Full(10_000));
+    let full = Told::Full(10_000);
     assert_eq!(rt; put(alloc, &mut tables, name("more")?, &[7, 7])?, full);
     assert_eq!(rt; tables.trace_versions(name("n9")?), Some(1000));
     Ok(())
@@ -203,7 +212,7 @@ fn put_in_turn(
         } else {
             second.copy(alloc)?
         };
-        carry_out(alloc, tables, &Command::Trace { name, trace })?;
+        changed(carry_out(alloc, tables, &Command::Trace { name, trace })?)?;
     }
     Ok(())
 }
@@ -214,17 +223,15 @@ fn samples_are_at_most_20000000_in_all(rt: HostRuntime) -> Result<(), Fail> {
     let mut tables = Tables::new(alloc);
     let low = vec![in alloc; 7; 100_000]?;
     let high = vec![in alloc; 8; 100_000]?;
+    let rest = vec![in alloc; 9; 99_998]?;
     let name = name("m")?;
     let pair = [
         &Trace::from_samples(alloc, 1000, &low)?,
         &Trace::from_samples(alloc, 1000, &high)?,
     ];
     put_in_turn(alloc, &mut tables, name, pair, 199)?;
-    let full = Told::Refused(PlanError::Full(20_000_000));
-    assert_eq!(rt;
-        put(alloc, &mut tables, name, &high[..99_998])?,
-        Told::Changed
-    );
+    let full = Told::Full(20_000_000);
+    assert_eq!(rt; put(alloc, &mut tables, name, &rest)?, Told::Changed);
     assert_eq!(rt; put(alloc, &mut tables, name, &[7, 8, 9])?, full);
     assert_eq!(rt; put(alloc, &mut tables, name, &[7, 8])?, Told::Changed);
     assert_eq!(rt; put(alloc, &mut tables, name, &[7, 9])?, full);
@@ -242,7 +249,7 @@ fn methods_are_at_most_500(rt: HostRuntime) -> Result<(), Fail> {
         let told = draft(alloc, &mut tables, name, text.as_str())?;
         assert_eq!(rt; told, Told::Changed);
     }
-    let full = Told::Refused(PlanError::Full(500));
+    let full = Told::Full(500);
     assert_eq!(rt;
         draft(alloc, &mut tables, name("more")?, text.as_str())?,
         full
@@ -264,8 +271,8 @@ fn freeze_in_turn(
 ) -> Result<(), Fail> {
     for version in 0..versions {
         let text = method(alloc, version % 2)?;
-        draft(alloc, tables, name, text.as_str())?;
-        freeze(alloc, tables, name, version + 1)?;
+        changed(draft(alloc, tables, name, text.as_str())?)?;
+        changed(freeze(alloc, tables, name, version + 1)?)?;
     }
     Ok(())
 }
@@ -283,20 +290,11 @@ fn method_versions_are_at_most_1000_and_10000_in_all(rt: HostRuntime) -> Result<
     assert_eq!(rt; freeze(alloc, &mut tables, m, 1)?, Told::Unchanged);
     let text = method(alloc, 7)?;
     assert_eq!(rt; draft(alloc, &mut tables, m, text.as_str())?, Told::Changed);
-    assert_eq!(rt;
-        freeze(alloc, &mut tables, m, 1000)?,
-        Told::Refused(PlanError::Number(1001))
-    );
-    assert_eq!(rt;
-        freeze(alloc, &mut tables, m, 1001)?,
-        Told::Refused(PlanError::Full(1000))
-    );
+    assert_eq!(rt; freeze(alloc, &mut tables, m, 1000)?, Told::Number(1001));
+    assert_eq!(rt; freeze(alloc, &mut tables, m, 1001)?, Told::Full(1000));
     let m = name("more")?;
     assert_eq!(rt; draft(alloc, &mut tables, m, text.as_str())?, Told::Changed);
-    assert_eq!(rt;
-        freeze(alloc, &mut tables, m, 1)?,
-        Told::Refused(PlanError::Full(10_000))
-    );
+    assert_eq!(rt; freeze(alloc, &mut tables, m, 1)?, Told::Full(10_000));
     assert_eq!(rt; tables.method_versions(m), Some(0));
     Ok(())
 }

@@ -1,19 +1,16 @@
 -- A change that tables accept has a record.
-use Rattle.std.proofs.Common.{◌≡◌, ◌∙◌, ℕ, ◌+◌, ◌^◌, ◌<◌, ◌≤◌, inl, inr, List, [], ◌∷◌, ◌++◌, length, Result, Ok, Err, refl, sym, subst, arith}
+use Rattle.std.proofs.Common.{◌≡◌, ◌∙◌, ℕ, ◌+◌, ◌≤◌, inl, inr, List, [], ◌∷◌, ◌++◌, length, Ok, Err, refl, sym, subst, arith}
 use Rattle.std.proofs.lemmas.Bool.{cases_eq}
 use Rattle.std.proofs.lemmas.List.{length-append}
-use Rattle.cds_book.specs.Plan.{planned, counts_of, Accepts}
+use Rattle.cds_book.specs.Plan.{counts_of, Accepts}
 use Rattle.cds_book.specs.Tables.{TablesState, texts_of}
 use Rattle.cds_book.specs.declared.command.Change.{Change}
 use Rattle.cds_book.specs.declared.command.Change.TheVariants.{Trace, Draft, Freeze}
-use Rattle.cds_book.specs.declared.command.Command.TheVariants as command
-use Rattle.cds_book.specs.declared.command.Plan.{Plan}
 use Rattle.cds_book.specs.declared.command.Plan.TheVariants as plan
-use Rattle.cds_book.specs.declared.error.PlanError.{PlanError}
 use Rattle.cds_book.specs.declared.error.PlanError.TheVariants.{Number}
 use Rattle.cds_book.specs.declared.limits.TheConstants.{MOST_VERSIONS}
 use Rattle.cds_book.proofs.VersionLaws.{AreWithin}
-use Rattle.cds_book.proofs.MethodLaws.{applied-freeze, texts_of-with, planned-other_number, IsNewText, IsNewText-accepted}
+use Rattle.cds_book.proofs.MethodLaws.{applied-freeze, texts_of-with, planned-other_number, IsNewText-accepted}
 use Rattle.cds_codec.specs.Record.{HasRecord}
 use Rattle.cds_codec.proofs.Lengths.{IsMethod-length}
 
@@ -24,9 +21,9 @@ next_version t name version accepts =
     elim (cases_eq version (length (texts_of t name) + 1)) [
       | inl next ↦ next
       | inr differs ↦
-        let refused = planned-other_number t name version new.draft (sym new.is) (texts_of t name) refl _ (sym new.other) refl differs in
-        let contrary : Err (Number (length (texts_of t name) + 1)) ≡ Ok (plan.Change (Freeze name version)) = sym refused ∙ accepts.accepted in
-        cc
+          let refused = planned-other_number t name version new.draft (sym new.is) (texts_of t name) refl _ (sym new.other) refl differs in
+          let contrary : Err (Number (length (texts_of t name) + 1)) ≡ Ok (plan.Change (Freeze name version)) = sym refused ∙ accepts.accepted in
+          cc
     ]
 
 -- and no version past 1,000

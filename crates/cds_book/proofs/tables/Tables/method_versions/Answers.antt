@@ -1,4 +1,4 @@
-use Rattle.std.proofs.Common.{◌∙◌, ◌≡◌, ◌≤◌, length, sym, ap, Some, arith}
+use Rattle.std.proofs.Common.{◌∙◌, sym, ap, Some, arith}
 use Rattle.cds_book.proofs.LookLaws.{method_named-at, method_named-gap, method_versions_of-found, IsMethodEntry-at}
 use Rattle.cds_book.proofs.tables.Tables.method_versions.Goals as goal
 

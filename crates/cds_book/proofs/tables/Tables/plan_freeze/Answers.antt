@@ -1,5 +1,4 @@
-use Rattle.std.proofs.Common.{◌≡◌, ◌≤◌, ◌+◌, length, arith, inl, refl, sym, ap, Some, None}
-use Rattle.cds_book.specs.declared.limits.TheConstants.{MOST_VERSIONS}
+use Rattle.std.proofs.Common.{length, arith, inl, refl, ap, Some, None}
 use Rattle.cds_book.proofs.MethodLaws.{few_texts, planned-no_draft, planned-latest_text, planned-other_number, planned-next_number}
 use Rattle.cds_book.proofs.tables.Tables.plan_freeze.Goals as goal
 

@@ -1,4 +1,4 @@
-use Rattle.std.proofs.Common.{◌∙◌, ◌+◌, length, refl, sym, ap, map, arith}
+use Rattle.std.proofs.Common.{◌∙◌, refl, sym, ap, map, arith}
 use Rattle.std.specs.Vec.{with_item}
 use Rattle.cds_book.specs.Held.{method_shown, state_held}
 use Rattle.cds_book.specs.Tables.{texts_of}

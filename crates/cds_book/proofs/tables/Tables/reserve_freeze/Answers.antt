@@ -1,4 +1,4 @@
-use Rattle.std.proofs.Common.{◌∙◌, refl, sym, ap, Some}
+use Rattle.std.proofs.Common.{◌∙◌, refl, ap, Some}
 use Rattle.cds_book.specs.Tables.{TablesValue}
 use Rattle.cds_book.specs.declared.entry.MethodEntry.{MethodEntry}
 use Rattle.cds_book.specs.declared.room.Taken.TheVariants.{Freeze}

@@ -2,7 +2,7 @@ use Rattle.std.proofs.Common.{◌∙◌, refl, ap, Some}
 use Rattle.cds_book.specs.Tables.{TablesValue}
 use Rattle.cds_book.specs.declared.entry.TraceEntry.{TraceEntry}
 use Rattle.cds_book.specs.declared.room.Taken.TheVariants.{Version}
-use Rattle.cds_book.proofs.RoomLaws.{HoldsSame, no_room, state-HoldsSame, IsHeld-HoldsSame, with_trace_entry, HoldsSame-trace_entry, HasRoom-version}
+use Rattle.cds_book.proofs.RoomLaws.{no_room, state-HoldsSame, IsHeld-HoldsSame, with_trace_entry, HoldsSame-trace_entry, HasRoom-version}
 use Rattle.cds_book.proofs.tables.Tables.reserve_version.Goals as goal
 
 -- memory was wanting

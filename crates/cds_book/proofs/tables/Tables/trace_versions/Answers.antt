@@ -1,4 +1,4 @@
-use Rattle.std.proofs.Common.{◌∙◌, ◌≡◌, ◌≤◌, length, sym, ap, Some, arith}
+use Rattle.std.proofs.Common.{◌∙◌, sym, ap, Some, arith}
 use Rattle.cds_book.proofs.LookLaws.{traces_named-at, traces_named-gap, trace_versions_of-found, IsTraceEntry-at}
 use Rattle.cds_book.proofs.tables.Tables.trace_versions.Goals as goal
 

@@ -1,0 +1,152 @@
+-- What stays whatever is changed, and the numbers of versions.
+use Rattle.std.proofs.Common.{◌≡◌, ◌∙◌, ℕ, ◌+◌, ◌-◌, ◌<◌, ◌==◌, Bool, true, false, inl, inr, List, [], ◌∷◌, ◌++◌, length, get_or, Option, Some, None, option_map, unwrap_or, refl, sym, ap, subst, arith, slice_get, append-nil, if◌then◌else◌}
+use Rattle.std.specs.Option.{option_and_then}
+use Rattle.std.specs.Str.{bytes_eq}
+use Rattle.std.proofs.lemmas.Bool.{cases_Bool}
+use Rattle.std.proofs.lemmas.List.{get_or_append_left, length-append}
+use Rattle.std.proofs.lemmas.Option.{slice_get-get_or, slice_get_within}
+use Rattle.std.proofs.lemmas.Slice.Eq.{bytes_eq-Decides}
+use Rattle.cds_trace.specs.Signal.{Signal}
+use Rattle.cds_book.specs.Places.{named}
+use Rattle.cds_book.specs.Plan.{applied, with_signals, with_method, with_frozen, Accepts}
+use Rattle.cds_book.specs.Tables.{NamedTraces, NamedMethod, TablesState, numbered, traces_named, method_named, trace_of, trace_versions_of, signals_of, draft_of, method_of, method_versions_of, texts_of}
+use Rattle.cds_book.specs.declared.command.Change.{Change}
+use Rattle.cds_book.specs.declared.command.Change.TheVariants as change
+use Rattle.cds_book.proofs.PlaceLaws.{named-placed, named-placed_other}
+use Rattle.cds_book.proofs.LookLaws.{trace_of-found, trace_versions_of-found, method_of-found, method_versions_of-found}
+use Rattle.cds_book.proofs.TraceLaws.{trace_name, applied-trace}
+use Rattle.cds_book.proofs.MethodLaws.{method_name, method_named-with, applied-draft, applied-freeze, IsNewText-accepted}
+
+-- an item of a list with more behind it
+slice_get-append : {X : Type 0} (xs ys : List X) (i : ℕ) (x : X) → slice_get xs i ≡ Some x → slice_get (xs ++ ys) i ≡ Some x
+slice_get-append xs ys i x is =
+    let below : i < length xs = slice_get_within xs i x is in
+    let long : i < length (xs ++ ys) = omega (arith, length-append xs ys) in
+    let here : Some (get_or xs i x) ≡ Some x = sym (slice_get-get_or xs i x below) ∙ is in
+    slice_get-get_or (xs ++ ys) i x long ∙ ap Some (get_or_append_left xs ys x i below) ∙ here
+
+-- a version stays with more versions behind it
+pub numbered-append : {X : Type 0} (versions more : List X) (number : ℕ) (x : X) → numbered versions number ≡ Some x → numbered (versions ++ more) number ≡ Some x
+numbered-append versions more number x = by_test (number == 0)
+  where
+    by_test : (b : Bool) → (if b then None else slice_get versions (number - 1)) ≡ Some x → (if b then None else slice_get (versions ++ more) (number - 1)) ≡ Some x
+    by_test true is = cc
+    by_test false is = slice_get-append versions more (number - 1) x is
+
+-- a version of a trace is one of the versions of its name
+signals_of-version : (t : TablesState) (name : List ℕ) (version : ℕ) (signal : Signal) → trace_of t name version ≡ Some signal → numbered (signals_of t name) version ≡ Some signal
+unfolding trace_of signals_of
+signals_of-version t name version signal = by_found (traces_named t name)
+  where
+    by_found : (found : Option NamedTraces) → option_and_then (λ (e : NamedTraces). numbered e.versions version) found ≡ Some signal → numbered (unwrap_or (option_map (λ (e : NamedTraces). e.versions) found) []) version ≡ Some signal
+    by_found None is = cc
+    by_found (Some e) is = is
+
+texts_of-version : (t : TablesState) (name : List ℕ) (version : ℕ) (text : List ℕ) → method_of t name version ≡ Some text → numbered (texts_of t name) version ≡ Some text
+unfolding method_of texts_of
+texts_of-version t name version text = by_found (method_named t name)
+  where
+    by_found : (found : Option NamedMethod) → option_and_then (λ (e : NamedMethod). numbered e.versions version) found ≡ Some text → numbered (unwrap_or (option_map (λ (e : NamedMethod). e.versions) found) []) version ≡ Some text
+    by_found None is = cc
+    by_found (Some e) is = is
+
+-- versions of traces stay when more are put
+trace_of-with : (t : TablesState) (put name : List ℕ) (more : List Signal) (version : ℕ) (signal : Signal) → trace_of t name version ≡ Some signal → trace_of (with_signals t put (signals_of t put ++ more)) name version ≡ Some signal
+trace_of-with t put name more version signal is =
+    let versions = signals_of t put ++ more in
+    let entry : NamedTraces = record { name = put; versions = versions } in
+    let after = with_signals t put versions in
+    elim (cases_Bool (bytes_eq put name)) [
+      | inl same ↦
+          let one : put ≡ name = (bytes_eq-Decides put name).0 same in
+          let found : traces_named after name ≡ Some entry = subst (λ n. traces_named after n ≡ Some entry) one (named-placed trace_name t.traces entry) in
+          let was : numbered (signals_of t put) version ≡ Some signal = subst (λ n. numbered (signals_of t n) version ≡ Some signal) (sym one) (signals_of-version t name version signal is) in
+          trace_of-found after name (Some entry) found version ∙ numbered-append (signals_of t put) more version signal was
+      | inr other ↦
+          let found : traces_named after name ≡ traces_named t name = named-placed_other trace_name t.traces entry name other in
+          trace_of-found after name (traces_named t name) found version ∙ sym (trace_of-found t name (traces_named t name) refl version) ∙ is
+    ]
+
+-- versions of methods stay when more are put
+method_of-with : (t : TablesState) (put draft name : List ℕ) (more : List (List ℕ)) (version : ℕ) (text : List ℕ) → method_of t name version ≡ Some text → method_of (with_method t put draft (texts_of t put ++ more)) name version ≡ Some text
+method_of-with t put draft name more version text is =
+    let versions = texts_of t put ++ more in
+    let entry : NamedMethod = record { name = put; draft = draft; versions = versions } in
+    let after = with_method t put draft versions in
+    elim (cases_Bool (bytes_eq put name)) [
+      | inl same ↦
+          let one : put ≡ name = (bytes_eq-Decides put name).0 same in
+          let found : method_named after name ≡ Some entry = subst (λ n. method_named after n ≡ Some entry) one (method_named-with t put draft versions) in
+          let was : numbered (texts_of t put) version ≡ Some text = subst (λ n. numbered (texts_of t n) version ≡ Some text) (sym one) (texts_of-version t name version text is) in
+          method_of-found after name (Some entry) found version ∙ numbered-append (texts_of t put) more version text was
+      | inr other ↦
+          let found : method_named after name ≡ method_named t name = named-placed_other method_name t.methods entry name other in
+          method_of-found after name (method_named t name) found version ∙ sym (method_of-found t name (method_named t name) refl version) ∙ is
+    ]
+
+-- traces don't look at methods, nor methods at traces
+traces-same : (s t : TablesState) (name : List ℕ) (version : ℕ) → s.traces ≡ t.traces → trace_of s name version ≡ trace_of t name version
+unfolding trace_of
+traces-same s t name version same = ap (λ (es : List NamedTraces). option_and_then (λ (e : NamedTraces). numbered e.versions version) (named trace_name es name)) same
+
+methods-same : (s t : TablesState) (name : List ℕ) (version : ℕ) → s.methods ≡ t.methods → method_of s name version ≡ method_of t name version
+unfolding method_of
+methods-same s t name version same = ap (λ (es : List NamedMethod). option_and_then (λ (e : NamedMethod). numbered e.versions version) (named method_name es name)) same
+
+-- a freeze without a draft leaves the methods
+methods-no_draft : (t : TablesState) (name : List ℕ) (version : ℕ) → draft_of t name ≡ None → (applied t (change.Freeze name version)).methods ≡ t.methods
+unfolding applied
+methods-no_draft t name version none = ap (λ (o : Option (List ℕ)). (with_frozen t name o).methods) none
+
+-- a freeze leaves the traces
+traces-freeze : (t : TablesState) (name : List ℕ) (version : ℕ) → (applied t (change.Freeze name version)).traces ≡ t.traces
+unfolding applied
+traces-freeze t name version = by_draft (draft_of t name)
+  where
+    by_draft : (draft : Option (List ℕ)) → (with_frozen t name draft).traces ≡ t.traces
+    by_draft None = refl
+    by_draft (Some draft) = refl
+
+-- whatever is changed, each version of a trace stays
+pub trace_of-stays : (t : TablesState) (c : Change) (name : List ℕ) (version : ℕ) (signal : Signal) → trace_of t name version ≡ Some signal → trace_of (applied t c) name version ≡ Some signal
+trace_of-stays t (change.Trace put more) name version signal is = rw (applied-trace t put more) (trace_of-with t put name (more ∷ []) version signal is)
+trace_of-stays t (change.Draft put text) name version signal is = rw (applied-draft t put text) (traces-same (with_method t put text (texts_of t put)) t name version refl ∙ is)
+trace_of-stays t (change.Freeze put number) name version signal is = traces-same (applied t (change.Freeze put number)) t name version (traces-freeze t put number) ∙ is
+
+-- whatever is changed, each version of a method stays
+pub method_of-stays : (t : TablesState) (c : Change) (name : List ℕ) (version : ℕ) (text : List ℕ) → method_of t name version ≡ Some text → method_of (applied t c) name version ≡ Some text
+method_of-stays t (change.Trace put more) name version text is = rw (applied-trace t put more) (methods-same (with_signals t put (signals_of t put ++ more ∷ [])) t name version refl ∙ is)
+method_of-stays t (change.Draft put draft) name version text is =
+    rw (applied-draft t put draft) (subst (λ (ts : List (List ℕ)). method_of (with_method t put draft ts) name version ≡ Some text) (append-nil (texts_of t put)) (method_of-with t put draft name [] version text is))
+method_of-stays t (change.Freeze put number) name version text is = by_draft (draft_of t put) refl
+  where
+    by_draft : (draft : Option (List ℕ)) → draft_of t put ≡ draft → method_of (applied t (change.Freeze put number)) name version ≡ Some text
+    by_draft None none = methods-same (applied t (change.Freeze put number)) t name version (methods-no_draft t put number none) ∙ is
+    by_draft (Some draft) there = rw (applied-freeze t put number draft there) (method_of-with t put draft name (draft ∷ []) version text is)
+
+-- how many versions a name has is how many versions there are
+trace_versions_of-signals : (t : TablesState) (name : List ℕ) → unwrap_or (trace_versions_of t name) 0 ≡ length (signals_of t name)
+unfolding trace_versions_of signals_of
+trace_versions_of-signals t name = by_found (traces_named t name)
+  where
+    by_found : (found : Option NamedTraces) → unwrap_or (option_map (λ (e : NamedTraces). length e.versions) found) 0 ≡ length (unwrap_or (option_map (λ (e : NamedTraces). e.versions) found) [])
+    by_found None = refl
+    by_found (Some e) = refl
+
+-- a trace is put as the next version of its name
+pub trace_versions_of-applied : (t : TablesState) (name : List ℕ) (signal : Signal) → trace_versions_of (applied t (change.Trace name signal)) name ≡ Some (unwrap_or (trace_versions_of t name) 0 + 1)
+trace_versions_of-applied t name signal =
+    let versions = signals_of t name ++ signal ∷ [] in
+    let entry : NamedTraces = record { name = name; versions = versions } in
+    let found = trace_versions_of-found (with_signals t name versions) name (Some entry) (named-placed trace_name t.traces entry) in
+    let grown : length versions ≡ unwrap_or (trace_versions_of t name) 0 + 1 = length-append (signals_of t name) (signal ∷ []) ∙ ap (λ n. n + 1) (sym (trace_versions_of-signals t name)) in
+    rw (applied-trace t name signal) (found ∙ ap Some grown)
+
+-- a draft is frozen as the version of the number that was named
+pub method_versions_of-applied : (t : TablesState) (name : List ℕ) (version : ℕ) → Accepts t (change.Freeze name version) → method_versions_of (applied t (change.Freeze name version)) name ≡ Some version
+method_versions_of-applied t name version accepts =
+    let new = IsNewText-accepted t name version accepts in
+    let versions = texts_of t name ++ new.draft ∷ [] in
+    let found = method_versions_of-found (with_method t name new.draft versions) name _ (method_named-with t name new.draft versions) in
+    let grown : length versions ≡ version = length-append (texts_of t name) (new.draft ∷ []) ∙ sym new.next in
+    rw (applied-freeze t name version new.draft new.is) (found ∙ ap Some grown)

@@ -1,0 +1,5 @@
+use Rattle.cds_book.proofs.PlanLaws.{IsTables-applied}
+use Rattle.cds_book.proofs.laws.rules_are_kept.Goals as goal
+
+pub returns : goal.returns
+returns c = IsTables-applied

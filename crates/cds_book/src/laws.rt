@@ -1,0 +1,43 @@
+//! Laws of the tables. Each is proved by its contract, and its body does nothing.
+ghost use Rattle.std.specs.Prelude.{◌≡◌, ℕ, ◌+◌, List, Ok, Some, unwrap_or};
+ghost use Rattle.cds_trace.specs.Signal.{Signal};
+ghost use Rattle.cds_book.specs.Kept.{IsTables};
+ghost use Rattle.cds_book.specs.Plan.{planned, applied, command_of, Accepts};
+ghost use Rattle.cds_book.specs.Tables.{TablesState, trace_of, trace_versions_of, method_of, method_versions_of};
+ghost use Rattle.cds_book.specs.declared.command.Change.{Change as Changed};
+ghost use Rattle.cds_book.specs.declared.command.Change.TheVariants as change;
+ghost use Rattle.cds_book.specs.declared.command.Plan.TheVariants as plan;
+
+/// An accepted change keeps all rules of the tables.
+pub fn rules_are_kept()
+    ensures { (tables : TablesState) (c : Changed) → IsTables tables → Accepts tables c → IsTables (applied tables c) }
+{}
+
+/// A change that was carried out, asked for again, changes nothing.
+pub fn a_repeated_change_changes_nothing()
+    ensures { (tables : TablesState) (c : Changed) → Accepts tables c → planned (applied tables c) (command_of c) ≡ Ok plan.Unchanged }
+{}
+
+/// A trace is put as the next version of its name.
+pub fn a_trace_is_the_next_version()
+    ensures { (tables : TablesState) (name : List ℕ) (signal : Signal)
+        → trace_versions_of (applied tables (change.Trace name signal)) name ≡ Some (unwrap_or (trace_versions_of tables name) 0 + 1) }
+{}
+
+/// A draft is frozen as the version of the number that was named.
+pub fn a_freeze_makes_the_version_named()
+    ensures { (tables : TablesState) (name : List ℕ) (version : ℕ)
+        → Accepts tables (change.Freeze name version) → method_versions_of (applied tables (change.Freeze name version)) name ≡ Some version }
+{}
+
+/// Whatever is changed, each version of a trace stays what it was.
+pub fn trace_versions_stay()
+    ensures { (tables : TablesState) (c : Changed) (name : List ℕ) (version : ℕ) (signal : Signal)
+        → trace_of tables name version ≡ Some signal → trace_of (applied tables c) name version ≡ Some signal }
+{}
+
+/// Whatever is changed, each version of a method stays what it was.
+pub fn method_versions_stay()
+    ensures { (tables : TablesState) (c : Changed) (name : List ℕ) (version : ℕ) (text : List ℕ)
+        → method_of tables name version ≡ Some text → method_of (applied tables c) name version ≡ Some text }
+{}
