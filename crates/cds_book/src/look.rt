@@ -3,8 +3,8 @@ ghost use Rattle.std.specs.Prelude.{◌≡◌, ◌≤◌, option_copied, IfSome}
 ghost use Rattle.cds_book.specs.Kept.{IsTables};
 ghost use Rattle.cds_book.specs.Tables.{trace_of, trace_versions_of, signals_of, draft_of, method_of, method_versions_of, texts_of};
 
-use crate::limits::MOST_VERSIONS;
 use crate::entry::{method_place, numbered, trace_place};
+use crate::limits::MOST_VERSIONS;
 use crate::tables::Tables;
 use cds_base::{Bytes, Name};
 use cds_trace::Trace;

@@ -7,3 +7,4 @@ pub mod RefusalTexts
 pub mod TurnLaws
 pub mod Commands
 pub mod RepeatLaws
+pub mod SessionLaws

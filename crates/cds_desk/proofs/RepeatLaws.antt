@@ -34,7 +34,7 @@ trace_again tables name signal (Ok (plan.Change c)) is some =
       accepted = ap (planned tables) asks ∙ is;
     } in
     let again : planned (applied tables c) (command.Trace name signal) ≡ Ok plan.Unchanged = ap (planned (applied tables c)) (sym asks) ∙ planned-again tables c accepts in
-    rw again (refl, (answer.Trace (length signal.samples) true (version_count (applied tables c) name), refl, refl))
+    rw again (refl, answer.Trace (length signal.samples) true (version_count (applied tables c) name), refl, refl)
 
 put_again : (tables : TablesState) (name : List ℕ) (r : Result Signal TraceError) → IsTrue (is_some (trace_put tables name r).change)
     → IsUnchanged (trace_put (after_change tables (trace_put tables name r).change) name r)

@@ -25,9 +25,9 @@ prefix_behind before mid now a b is h = (
   length a + h.0,
   omega (arith, h.1, length-append a b),
   h.2
-  ∙ ap (λ (m : Option (List ℕ)). then_more m (take h.0 b)) is
-  ∙ then_more_twice before a (take h.0 b)
-  ∙ ap (then_more before) (sym (take-append-add a b h.0)),
+      ∙ ap (λ (m : Option (List ℕ)). then_more m (take h.0 b)) is
+      ∙ then_more_twice before a (take h.0 b)
+      ∙ ap (then_more before) (sym (take-append-add a b h.0)),
 )
 
 module _ {A E : Type 0} (r : Result A E) (before now : Option (List ℕ)) where

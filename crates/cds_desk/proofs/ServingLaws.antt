@@ -187,8 +187,7 @@ so_far_end w n from to after m m' count s r zero_is =
 pub after_read : (to after : Reading) (m m' : Stream) (count : ℕ) → ReadOn to after m m' count → 0 < count → m.last ≡ Some next.More
     → (m'.place ≡ m.place) × (length m'.bytes ≡ length m.bytes + count) × (m'.closed ≡ m.closed) × (fault_in m'.last ≡ None) × (m'.continued ≡ m.continued)
 after_read to after m m' count r some asked =
-    let is = r.fed some in
-    (
+    let is = r.fed some in (
       ap (λ (s : Stream). s.place) is,
       ap (λ (s : Stream). length s.bytes) is ∙ length-append m.bytes r.bytes ∙ ap (λ (n : ℕ). length m.bytes + n) r.length_is,
       ap (λ (s : Stream). s.closed) is,
@@ -310,8 +309,7 @@ pub done_at_close : (w n after : World) (from to : Reading) (m : Stream) (r : Re
 done_at_close w n after from to m r closes adds s served =
     let item = request (message_of m.bytes r) in
     let last : ItemsFrom m [] false (item ∷ []) = adds [] false [] (subst (λ (c : Bool). AreAfter c [] (ItemsFrom (dropped m r) [] false [])) (sym closes) refl) in
-    let all = items_with s.bytes s.items m false (item ∷ []) s.told last in
-    (
+    let all = items_with s.bytes s.items m false (item ∷ []) s.told last in (
       false,
       s.items ++ item ∷ [],
       served_more w n after from to m false item s served all (λ e. absurd (cc)),

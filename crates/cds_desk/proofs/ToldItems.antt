@@ -81,8 +81,7 @@ told_continue bytes items m first adds t = record {
   backward = λ more ended all are.
       let was = t.backward more ended all are in
       let front = first_of m.place m.bytes more m.continued ended continue was.0 first was.2 in
-      let after : AreItems m.place (m.bytes ++ more) m.continued ended (continue ∷ front.0) = subst (AreItems m.place (m.bytes ++ more) m.continued ended) front.1 was.2 in
-      (
+      let after : AreItems m.place (m.bytes ++ more) m.continued ended (continue ∷ front.0) = subst (AreItems m.place (m.bytes ++ more) m.continued ended) front.1 was.2 in (
         front.0,
         was.1 ∙ ap (λ (l : List Item). items ++ l) front.1 ∙ sym (append_assoc items (continue ∷ []) front.0),
         subst (λ (c : Bool). AreItems m.place (m.bytes ++ more) c ended front.0) (sym (or_true m.continued)) after.1,
@@ -103,8 +102,7 @@ told_request bytes items m r keeps fits first adds t = record {
       let front = first_of m.place m.bytes more m.continued ended (request (message_of m.bytes r)) was.0 first was.2 in
       let after : AreItems m.place (m.bytes ++ more) m.continued ended (request (message_of m.bytes r) ∷ front.0) = subst (AreItems m.place (m.bytes ++ more) m.continued ended) front.1 was.2 in
       let behind : AreItems (m.place + r.body.end) (drop r.body.end (m.bytes ++ more)) false ended front.0 =
-      subst (λ (c : Bool). AreAfter c front.0 (AreItems (m.place + r.body.end) (drop r.body.end (m.bytes ++ more)) false ended front.0)) keeps after.1 in
-      (
+      subst (λ (c : Bool). AreAfter c front.0 (AreItems (m.place + r.body.end) (drop r.body.end (m.bytes ++ more)) false ended front.0)) keeps after.1 in (
         front.0,
         was.1 ∙ ap (λ (l : List Item). items ++ l) front.1 ∙ sym (append_assoc items (request (message_of m.bytes r) ∷ []) front.0),
         subst (λ (b : List ℕ). AreItems (m.place + r.body.end) b false ended front.0) (drop-append-le r.body.end m.bytes more fits) behind,

@@ -4,6 +4,8 @@ use Rattle.cds_book.specs.Tables.{TablesState}
 use Rattle.cds_keep.specs.Found.{Found, records, damaged}
 use Rattle.cds_desk.specs.Opening.{opened}
 use Rattle.cds_desk.specs.Serving.{World, Reading, world}
+use Rattle.cds_desk.specs.declared.serving.Ended.{Ended}
+use Rattle.cds_desk.specs.declared.serving.Ended.TheVariants.{Done, Refused, SourceFailed, SinkFailed, NoMemory}
 use Rattle.cds_desk.specs.declared.desk.OpenError.{OpenError}
 use Rattle.cds_desk.specs.declared.desk.OpenError.TheVariants as open_error
 
@@ -39,3 +41,11 @@ pub record Opened (found : Option Found) : Type 0 where
 abbrev pub SessionOf : (World → World → Reading → Reading → Type 0) → Option Found → Option (List ℕ) → ℕ → Option (List ℕ) → Option (List (List ℕ)) → ℕ → Reading → Reading → Type 0
 SessionOf Way found written faults written_now content_now faults_now from to =
     (o : Opened found) × (after : TablesState) × Way (world written o.content faults o.tables) (world written_now content_now faults_now after) from to
+
+-- the status of a session whose serving ended so
+abbrev pub status_of : Ended → ℕ
+status_of Done = 0
+status_of Refused = 1
+status_of SourceFailed = 3
+status_of SinkFailed = 4
+status_of NoMemory = 6

@@ -25,7 +25,10 @@ pub(crate) struct Judged {
 fn only(reply: Reply) -> Judged
     ensures { result ≡ only reply }
 {
-    Judged { reply, change: None }
+    Judged {
+        reply,
+        change: None,
+    }
 }
 
 /// Judges a request by what its target names: first the route, then the method, and then all that the tables say.
@@ -95,7 +98,13 @@ fn csv_reply(alloc: Global, error: TraceError) -> Result<Reply, NoMemory>
 {
     let number = u32::from(error.number().unwrap_or(0));
     let record = u64::from(error.record().unwrap_or(0));
-    refusal(alloc, StatusCode::BAD_REQUEST, "csv", number, Shown::Number(record))
+    refusal(
+        alloc,
+        StatusCode::BAD_REQUEST,
+        "csv",
+        number,
+        Shown::Number(record),
+    )
 }
 
 /// Plans a trace as the next version of its name.
@@ -126,7 +135,15 @@ fn trace_reply(
 ) -> Result<Reply, NoMemory>
     ensures { IfOk result (λ r. r ≡ answered status (Answer.Trace samples unchanged version)) }
 {
-    answered(alloc, status, &Answer::Trace { samples, unchanged, version })
+    answered(
+        alloc,
+        status,
+        &Answer::Trace {
+            samples,
+            unchanged,
+            version,
+        },
+    )
 }
 
 /// The reply to what the tables refuse.
@@ -134,10 +151,22 @@ fn plan_reply(alloc: Global, error: PlanError) -> Result<Reply, NoMemory>
     ensures { IfOk result (λ r. r ≡ plan_reply error) }
 {
     match error {
-        PlanError::Full(limit) => refusal(alloc, StatusCode::UNPROCESSABLE_ENTITY, "full", 10, Shown::Number(limit)),
+        PlanError::Full(limit) => refusal(
+            alloc,
+            StatusCode::UNPROCESSABLE_ENTITY,
+            "full",
+            10,
+            Shown::Number(limit),
+        ),
         PlanError::NoMethod(name) => absent(alloc, 2, name_word(alloc, name)?),
         PlanError::Number(next) => {
-            refusal(alloc, StatusCode::CONFLICT, "conflict", 9, Shown::Number(u64::from(next)))
+            refusal(
+                alloc,
+                StatusCode::CONFLICT,
+                "conflict",
+                9,
+                Shown::Number(u64::from(next)),
+            )
         }
         PlanError::NoMemory => Err(NoMemory),
     }

@@ -24,12 +24,24 @@ fn fault_parts(fault: Fault) -> (StatusCode, &'static str, u64)
         Fault::Head(place) => (StatusCode::BAD_REQUEST, "head", place),
         Fault::Truncated(place) => (StatusCode::BAD_REQUEST, "truncated", place),
         Fault::LengthRequired(place) => (StatusCode::LENGTH_REQUIRED, "length", place),
-        Fault::BodyTooLarge => (StatusCode::PAYLOAD_TOO_LARGE, "body", MOST_BODY_BYTES as u64),
+        Fault::BodyTooLarge => (
+            StatusCode::PAYLOAD_TOO_LARGE,
+            "body",
+            MOST_BODY_BYTES as u64,
+        ),
         Fault::HeadTooLarge => {
-            (StatusCode::REQUEST_HEADER_FIELDS_TOO_LARGE, "size", MOST_HEAD_BYTES as u64)
+            (
+                StatusCode::REQUEST_HEADER_FIELDS_TOO_LARGE,
+                "size",
+                MOST_HEAD_BYTES as u64,
+            )
         }
         Fault::TooManyFields => {
-            (StatusCode::REQUEST_HEADER_FIELDS_TOO_LARGE, "fields", MOST_FIELDS as u64)
+            (
+                StatusCode::REQUEST_HEADER_FIELDS_TOO_LARGE,
+                "fields",
+                MOST_FIELDS as u64,
+            )
         }
     }
 }
@@ -48,24 +60,46 @@ pub(crate) fn send_fault<W: Sink>(sink: &mut W, fault: Fault) -> Result<(), Fail
 
 /// Writes the response where memory is wanting.
 #[tactic(auto, using(crate::proofs::RefusalTexts::memory_is, crate::proofs::SendingLaws::text_err, crate::proofs::SendingLaws::text_ok))]
-pub(crate) fn send_no_memory<W: Sink>(sink: &mut W, close: bool, without_body: bool) -> Result<(), Failed>
+pub(crate) fn send_no_memory<W: Sink>(
+    sink: &mut W,
+    close: bool,
+    without_body: bool,
+) -> Result<(), Failed>
     ensures whole { OnOk result (W.written sink.new ≡ then_more (W.written sink.old) (memory_text close without_body)) }
     ensures prefix { OnErr result (HoldsPrefix (W.written sink.old) (W.written sink.new) (memory_text close without_body)) }
     ensures counts { W.faults sink.old ≤ W.faults sink.new }
     ensures failed { OnErr result (Rose (W.faults sink.old) (W.faults sink.new)) }
 {
-    send_refusal(sink, StatusCode::INSUFFICIENT_STORAGE, "memory", 0, close, without_body)
+    send_refusal(
+        sink,
+        StatusCode::INSUFFICIENT_STORAGE,
+        "memory",
+        0,
+        close,
+        without_body,
+    )
 }
 
 /// Writes the response where the keeper failed.
 #[tactic(auto, using(crate::proofs::RefusalTexts::keeper_is, crate::proofs::SendingLaws::text_err, crate::proofs::SendingLaws::text_ok))]
-pub(crate) fn send_keeper_failed<W: Sink>(sink: &mut W, close: bool, without_body: bool) -> Result<(), Failed>
+pub(crate) fn send_keeper_failed<W: Sink>(
+    sink: &mut W,
+    close: bool,
+    without_body: bool,
+) -> Result<(), Failed>
     ensures whole { OnOk result (W.written sink.new ≡ then_more (W.written sink.old) (keeper_text close without_body)) }
     ensures prefix { OnErr result (HoldsPrefix (W.written sink.old) (W.written sink.new) (keeper_text close without_body)) }
     ensures counts { W.faults sink.old ≤ W.faults sink.new }
     ensures failed { OnErr result (Rose (W.faults sink.old) (W.faults sink.new)) }
 {
-    send_refusal(sink, StatusCode::SERVICE_UNAVAILABLE, "keeper", 0, close, without_body)
+    send_refusal(
+        sink,
+        StatusCode::SERVICE_UNAVAILABLE,
+        "keeper",
+        0,
+        close,
+        without_body,
+    )
 }
 
 /// Writes a refusal that shows a number, with the number 0 of its own and a word of small letters.
@@ -108,17 +142,20 @@ fn send_head<W: Sink>(
 {
     let mut code = Buffer::new();
     let mut digits = Buffer::new();
-    send_parts(sink, &[
-        b"HTTP/1.1 ",
-        code.format(status.as_u16()).as_bytes(),
-        b" ",
-        phrase(status),
-        b"\r\nContent-Type: application/json\r\nContent-Length: ",
-        digits.format(count as u64).as_bytes(),
-        b"\r\n",
-        close_field(close),
-        b"\r\n",
-    ])
+    send_parts(
+        sink,
+        &[
+            b"HTTP/1.1 ",
+            code.format(status.as_u16()).as_bytes(),
+            b" ",
+            phrase(status),
+            b"\r\nContent-Type: application/json\r\nContent-Length: ",
+            digits.format(count as u64).as_bytes(),
+            b"\r\n",
+            close_field(close),
+            b"\r\n",
+        ],
+    )
 }
 
 /// Writes the body of a refusal.
@@ -129,13 +166,16 @@ fn send_body<W: Sink>(sink: &mut W, error: &str, digits: &[u8]) -> Result<(), Fa
     ensures counts { W.faults sink.old ≤ W.faults sink.new }
     ensures failed { OnErr result (Rose (W.faults sink.old) (W.faults sink.new)) }
 {
-    send_parts(sink, &[
-        b"{\"error\":\"",
-        error.as_bytes(),
-        b"\",\"number\":0,\"value\":",
-        digits,
-        b"}",
-    ])
+    send_parts(
+        sink,
+        &[
+            b"{\"error\":\"",
+            error.as_bytes(),
+            b"\",\"number\":0,\"value\":",
+            digits,
+            b"}",
+        ],
+    )
 }
 
 /// Writes the parts, one after the other.

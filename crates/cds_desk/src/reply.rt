@@ -27,7 +27,11 @@ pub(crate) struct Reply {
 }
 
 /// The reply with an answer as its body.
-pub(crate) fn answered(alloc: Global, status: StatusCode, answer: &Answer) -> Result<Reply, NoMemory>
+pub(crate) fn answered(
+    alloc: Global,
+    status: StatusCode,
+    answer: &Answer,
+) -> Result<Reply, NoMemory>
     ensures { IfOk result (λ r. r ≡ answered status answer.now) }
 {
     Ok(Reply {
@@ -49,7 +53,15 @@ pub(crate) fn refusal(
     ensures { IfOk result (λ r. r ≡ refusal_reply status error.now number value) }
 {
     let error = Text::from_string(String::from_str(alloc, error)?);
-    answered(alloc, status, &Answer::Refusal { error, number, value })
+    answered(
+        alloc,
+        status,
+        &Answer::Refusal {
+            error,
+            number,
+            value,
+        },
+    )
 }
 
 /// The value of a refusal that is shown as a word.

@@ -82,7 +82,11 @@ fn add_body_fields(text: &mut Vec<u8>, content: Content, count: usize) -> Result
 {
     let mut digits = Buffer::new();
     add_field(text, b"Content-Type", media_type(content))?;
-    add_field(text, b"Content-Length", digits.format(count as u64).as_bytes())?;
+    add_field(
+        text,
+        b"Content-Length",
+        digits.format(count as u64).as_bytes(),
+    )?;
     Ok(())
 }
 

@@ -2,7 +2,7 @@ ghost use Rattle.std.specs.Prelude.{◌≡◌, ◌≢◌, ◌≤◌, ℕ, [], tr
 ghost use Rattle.cds_base.specs.Faults.{Rose};
 ghost use Rattle.cds_desk.specs.Run.{Sent, IsStatus, EndsUnserved};
 ghost use Rattle.cds_desk.specs.Serving.{reading, IsDone, IsRefused, IsUnread, IsBroken};
-ghost use Rattle.cds_desk.specs.Session.{SessionOf, damage_of, damaged_line};
+ghost use Rattle.cds_desk.specs.Session.{SessionOf, status_of, damage_of, damaged_line};
 
 use crate::answer::{DONE, REFUSED};
 use crate::desk::{Desk, OpenError};
@@ -56,12 +56,20 @@ pub(crate) fn session<S: Source, W: Sink, K: Keeper, C: Clock, L: Ledger>(
         Err(OpenError::NoMemory) => return NO_MEMORY,
         Err(OpenError::Damaged(number)) => return tell_damage(sink, number),
     };
-    match desk.serve_connection(alloc, source, sink, keeper, clock, steps) {
-        Ended::Done => return DONE,
-        Ended::Refused => return REFUSED,
-        Ended::SourceFailed => return SOURCE_FAILED,
-        Ended::SinkFailed => return SINK_FAILED,
-        Ended::NoMemory => return NO_MEMORY,
+    let ended = desk.serve_connection(alloc, source, sink, keeper, clock, steps);
+    status_of(ended)
+}
+
+/// The status of a session whose serving ended so.
+fn status_of(ended: Ended) -> u8
+    ensures { result ≡ status_of ended }
+{
+    match ended {
+        Ended::Done => DONE,
+        Ended::Refused => REFUSED,
+        Ended::SourceFailed => SOURCE_FAILED,
+        Ended::SinkFailed => SINK_FAILED,
+        Ended::NoMemory => NO_MEMORY,
     }
 }
 
@@ -72,6 +80,9 @@ fn tell_damage<W: Sink>(sink: &mut W, number: u64) -> u8
     ensures counts { W.faults sink.old ≤ W.faults sink.new }
 {
     let mut digits = Buffer::new();
-    let _ = send_parts(sink, &[b"damaged ", digits.format(number).as_bytes(), b"\n"]);
+    let _ = send_parts(
+        sink,
+        &[b"damaged ", digits.format(number).as_bytes(), b"\n"],
+    );
     DAMAGED
 }

@@ -248,10 +248,17 @@ fn words_are_a_command_or_none(rt: HostRuntime) -> Result<(), Fail> {
 
 // ---- the session
 
-const FLAT: &str = "PUT /traces/flat HTTP/1.1\r\nContent-Length: 29\r\n\r\ntime_us,signal\n0,7\n1000000,7\n";
-const MADE: &str = "HTTP/1.1 201 Created\r\nContent-Type: application/json\r\nContent-Length: 43\r\n\r\n{\"samples\":2,\"unchanged\":false,\"version\":1}";
-const SAME: &str = "HTTP/1.1 200 OK\r\nContent-Type: application/json\r\nContent-Length: 42\r\n\r\n{\"samples\":2,\"unchanged\":true,\"version\":1}";
-const TEXT: &str = "HTTP/1.1 200 OK\r\nContent-Type: text/csv\r\nContent-Length: 29\r\n\r\ntime_us,signal\n0,7\n1000000,7\n";
+const FLAT: &str =
+    "PUT /traces/flat HTTP/1.1\r\nContent-Length: 29\r\n\r\ntime_us,signal\n0,7\n1000000,7\n";
+
+const MADE: &str =
+    "HTTP/1.1 201 Created\r\nContent-Type: application/json\r\nContent-Length: 43\r\n\r\n{\"samples\":2,\"unchanged\":false,\"version\":1}";
+
+const SAME: &str =
+    "HTTP/1.1 200 OK\r\nContent-Type: application/json\r\nContent-Length: 42\r\n\r\n{\"samples\":2,\"unchanged\":true,\"version\":1}";
+
+const TEXT: &str =
+    "HTTP/1.1 200 OK\r\nContent-Type: text/csv\r\nContent-Length: 29\r\n\r\ntime_us,signal\n0,7\n1000000,7\n";
 
 // The status and the responses of a session over a store that holds nothing, where the keeper's calls of these
 // numbers fail; its load is the first.
@@ -271,11 +278,21 @@ fn session(
 
 #[test]
 fn a_trace_is_put_and_read_however_the_stream_is_cut(rt: HostRuntime) -> Result<(), Fail> {
-    let expect = "PUT /traces/flat HTTP/1.1\r\nHost: localhost\r\nUser-Agent: lab\r\nAccept: */*\r\nExpect: 100-continue\r\nContent-Length: 29\r\n\r\ntime_us,signal\n0,7\n1000000,7\n";
+    let expect =
+        "PUT /traces/flat HTTP/1.1\r\nHost: localhost\r\nUser-Agent: lab\r\nAccept: */*\r\nExpect: 100-continue\r\nContent-Length: 29\r\n\r\ntime_us,signal\n0,7\n1000000,7\n";
     let rows = [
-        (String::from_str(rt.alloc(), FLAT)?, String::from_str(rt.alloc(), MADE)?),
-        (format!(in rt.alloc(); "{FLAT}{FLAT}")?, format!(in rt.alloc(); "{MADE}{SAME}")?),
-        (String::from_str(rt.alloc(), expect)?, format!(in rt.alloc(); "HTTP/1.1 100 Continue\r\n\r\n{MADE}")?),
+        (
+            String::from_str(rt.alloc(), FLAT)?,
+            String::from_str(rt.alloc(), MADE)?,
+        ),
+        (
+            format!(in rt.alloc(); "{FLAT}{FLAT}")?,
+            format!(in rt.alloc(); "{MADE}{SAME}")?,
+        ),
+        (
+            String::from_str(rt.alloc(), expect)?,
+            format!(in rt.alloc(); "HTTP/1.1 100 Continue\r\n\r\n{MADE}")?,
+        ),
         (
             format!(in rt.alloc(); "\r\n{FLAT}\nGET /traces/flat/1?x=1 HTTP/1.1\r\n\r\n\n")?,
             format!(in rt.alloc(); "{MADE}{TEXT}")?,
@@ -296,23 +313,80 @@ fn a_trace_is_put_and_read_however_the_stream_is_cut(rt: HostRuntime) -> Result<
 // A response with a refusal in JSON.
 fn refusal(alloc: Global, status: &str, fields: &str, body: &str) -> Result<String, Fail> {
     let count = body.len();
-    Ok(format!(in alloc; "HTTP/1.1 {status}\r\nContent-Type: application/json\r\nContent-Length: {count}\r\n{fields}\r\n{body}")?)
+    Ok(format!(in alloc;
+        "HTTP/1.1 {status}\r\nContent-Type: application/json\r\nContent-Length: {count}\r\n{fields}\r\n{body}"
+    )?)
 }
 
 #[test]
 fn refusals_are_answered_in_their_order(rt: HostRuntime) -> Result<(), Fail> {
     let rows = [
-        ("GET /none HTTP/1.1\r\n\r\n", "404 Not Found", "", "{\"error\":\"route\",\"number\":0,\"value\":\"\"}"),
-        ("GET /traces/flat/01 HTTP/1.1\r\n\r\n", "404 Not Found", "", "{\"error\":\"route\",\"number\":0,\"value\":\"\"}"),
-        ("GET /traces/a%20b/1 HTTP/1.1\r\n\r\n", "404 Not Found", "", "{\"error\":\"route\",\"number\":0,\"value\":\"\"}"),
-        ("GET /traces/flat/ HTTP/1.1\r\n\r\n", "404 Not Found", "", "{\"error\":\"route\",\"number\":0,\"value\":\"\"}"),
-        ("POST /traces/flat HTTP/1.1\r\n\r\n", "405 Method Not Allowed", "Allow: PUT\r\n", "{\"error\":\"method\",\"number\":0,\"value\":\"PUT\"}"),
-        ("PUT /traces/flat/1 HTTP/1.1\r\n\r\n", "405 Method Not Allowed", "Allow: GET\r\n", "{\"error\":\"method\",\"number\":0,\"value\":\"GET\"}"),
-        ("GET /traces/flat/4294967295 HTTP/1.1\r\n\r\n", "404 Not Found", "", "{\"error\":\"absent\",\"number\":1,\"value\":\"flat\"}"),
-        ("GET /traces/flat/4294967296 HTTP/1.1\r\n\r\n", "404 Not Found", "", "{\"error\":\"route\",\"number\":0,\"value\":\"\"}"),
-        ("PUT /traces/flat HTTP/1.1\r\nContent-Length: 19\r\n\r\ntime_us,signal\n0,1\n", "400 Bad Request", "", "{\"error\":\"csv\",\"number\":5,\"value\":0}"),
-        ("PUT /traces/flat HTTP/1.1\r\nContent-Length: 26\r\n\r\ntime_us,signal\n0,1\n1000,x\n", "400 Bad Request", "", "{\"error\":\"csv\",\"number\":3,\"value\":3}"),
-        ("GET /none HTTP/1.0\r\n\r\n", "404 Not Found", "Connection: close\r\n", "{\"error\":\"route\",\"number\":0,\"value\":\"\"}"),
+        (
+            "GET /none HTTP/1.1\r\n\r\n",
+            "404 Not Found",
+            "",
+            "{\"error\":\"route\",\"number\":0,\"value\":\"\"}",
+        ),
+        (
+            "GET /traces/flat/01 HTTP/1.1\r\n\r\n",
+            "404 Not Found",
+            "",
+            "{\"error\":\"route\",\"number\":0,\"value\":\"\"}",
+        ),
+        (
+            "GET /traces/a%20b/1 HTTP/1.1\r\n\r\n",
+            "404 Not Found",
+            "",
+            "{\"error\":\"route\",\"number\":0,\"value\":\"\"}",
+        ),
+        (
+            "GET /traces/flat/ HTTP/1.1\r\n\r\n",
+            "404 Not Found",
+            "",
+            "{\"error\":\"route\",\"number\":0,\"value\":\"\"}",
+        ),
+        (
+            "POST /traces/flat HTTP/1.1\r\n\r\n",
+            "405 Method Not Allowed",
+            "Allow: PUT\r\n",
+            "{\"error\":\"method\",\"number\":0,\"value\":\"PUT\"}",
+        ),
+        (
+            "PUT /traces/flat/1 HTTP/1.1\r\n\r\n",
+            "405 Method Not Allowed",
+            "Allow: GET\r\n",
+            "{\"error\":\"method\",\"number\":0,\"value\":\"GET\"}",
+        ),
+        (
+            "GET /traces/flat/4294967295 HTTP/1.1\r\n\r\n",
+            "404 Not Found",
+            "",
+            "{\"error\":\"absent\",\"number\":1,\"value\":\"flat\"}",
+        ),
+        (
+            "GET /traces/flat/4294967296 HTTP/1.1\r\n\r\n",
+            "404 Not Found",
+            "",
+            "{\"error\":\"route\",\"number\":0,\"value\":\"\"}",
+        ),
+        (
+            "PUT /traces/flat HTTP/1.1\r\nContent-Length: 19\r\n\r\ntime_us,signal\n0,1\n",
+            "400 Bad Request",
+            "",
+            "{\"error\":\"csv\",\"number\":5,\"value\":0}",
+        ),
+        (
+            "PUT /traces/flat HTTP/1.1\r\nContent-Length: 26\r\n\r\ntime_us,signal\n0,1\n1000,x\n",
+            "400 Bad Request",
+            "",
+            "{\"error\":\"csv\",\"number\":3,\"value\":3}",
+        ),
+        (
+            "GET /none HTTP/1.0\r\n\r\n",
+            "404 Not Found",
+            "Connection: close\r\n",
+            "{\"error\":\"route\",\"number\":0,\"value\":\"\"}",
+        ),
     ];
     for (request, status, fields, body) in rows {
         let (ended, written) = session(rt.alloc(), request.as_bytes(), 7, &[])?;
@@ -322,16 +396,29 @@ fn refusals_are_answered_in_their_order(rt: HostRuntime) -> Result<(), Fail> {
     }
     let after = format!(in rt.alloc(); "{FLAT}GET /traces/flat/2 HTTP/1.1\r\n\r\n")?;
     let (_, written) = session(rt.alloc(), after.as_bytes(), 9, &[])?;
-    let absent = refusal(rt.alloc(), "404 Not Found", "", "{\"error\":\"absent\",\"number\":3,\"value\":2}")?;
+    let absent = refusal(
+        rt.alloc(),
+        "404 Not Found",
+        "",
+        "{\"error\":\"absent\",\"number\":3,\"value\":2}",
+    )?;
     assert!(rt; written.as_slice().ends_with(absent.as_bytes()));
     Ok(())
 }
 
 #[test]
 fn a_head_request_keeps_the_length_and_leaves_the_body_out(rt: HostRuntime) -> Result<(), Fail> {
-    let (status, written) = session(rt.alloc(), b"HEAD /traces/flat/1 HTTP/1.1\r\nConnection: close\r\n\r\nGET", 5, &[])?;
+    let (status, written) = session(
+        rt.alloc(),
+        b"HEAD /traces/flat/1 HTTP/1.1\r\nConnection: close\r\n\r\nGET",
+        5,
+        &[],
+    )?;
     assert_eq!(rt; status, 0);
-    assert_eq!(rt; written.as_slice(), b"HTTP/1.1 405 Method Not Allowed\r\nContent-Type: application/json\r\nContent-Length: 43\r\nAllow: GET\r\nConnection: close\r\n\r\n".as_slice());
+    assert_eq!(rt;
+        written.as_slice(),
+        b"HTTP/1.1 405 Method Not Allowed\r\nContent-Type: application/json\r\nContent-Length: 43\r\nAllow: GET\r\nConnection: close\r\n\r\n".as_slice()
+    );
     Ok(())
 }
 
@@ -339,10 +426,26 @@ fn a_head_request_keeps_the_length_and_leaves_the_body_out(rt: HostRuntime) -> R
 fn a_fault_of_the_stream_is_the_last_response(rt: HostRuntime) -> Result<(), Fail> {
     let cut = &FLAT.as_bytes()[..FLAT.len() - 1];
     let rows: [(&[u8], &str, &str); 4] = [
-        (cut, "400 Bad Request", "{\"error\":\"truncated\",\"number\":0,\"value\":0}"),
-        (b"PUT /traces/flat HTTP/1.1\r\nTransfer-Encoding: chunked\r\n\r\n", "411 Length Required", "{\"error\":\"length\",\"number\":0,\"value\":0}"),
-        (b"PUT /traces/flat HTTP/1.1\r\nContent-Length: 4194305\r\n\r\n", "413 Content Too Large", "{\"error\":\"body\",\"number\":0,\"value\":4194304}"),
-        (b"no head\r\n\r\n", "400 Bad Request", "{\"error\":\"head\",\"number\":0,\"value\":0}"),
+        (
+            cut,
+            "400 Bad Request",
+            "{\"error\":\"truncated\",\"number\":0,\"value\":0}",
+        ),
+        (
+            b"PUT /traces/flat HTTP/1.1\r\nTransfer-Encoding: chunked\r\n\r\n",
+            "411 Length Required",
+            "{\"error\":\"length\",\"number\":0,\"value\":0}",
+        ),
+        (
+            b"PUT /traces/flat HTTP/1.1\r\nContent-Length: 4194305\r\n\r\n",
+            "413 Content Too Large",
+            "{\"error\":\"body\",\"number\":0,\"value\":4194304}",
+        ),
+        (
+            b"no head\r\n\r\n",
+            "400 Bad Request",
+            "{\"error\":\"head\",\"number\":0,\"value\":0}",
+        ),
     ];
     for (bytes, status, body) in rows {
         let (ended, written) = session(rt.alloc(), bytes, 11, &[])?;
@@ -353,15 +456,29 @@ fn a_fault_of_the_stream_is_the_last_response(rt: HostRuntime) -> Result<(), Fai
     let second = format!(in rt.alloc(); "{FLAT}GET")?;
     let (ended, written) = session(rt.alloc(), second.as_bytes(), 11, &[])?;
     assert_eq!(rt; ended, 1);
-    assert!(rt; written.as_slice().ends_with(b"{\"error\":\"truncated\",\"number\":0,\"value\":78}"));
+    assert!(rt;
+        written
+            .as_slice()
+            .ends_with(b"{\"error\":\"truncated\",\"number\":0,\"value\":78}")
+    );
     Ok(())
 }
 
 #[test]
 fn a_keeper_that_fails_once_fails_one_request(rt: HostRuntime) -> Result<(), Fail> {
     let bytes = format!(in rt.alloc(); "{FLAT}GET /traces/flat/1 HTTP/1.1\r\n\r\n{FLAT}")?;
-    let failed = refusal(rt.alloc(), "503 Service Unavailable", "", "{\"error\":\"keeper\",\"number\":0,\"value\":0}")?;
-    let absent = refusal(rt.alloc(), "404 Not Found", "", "{\"error\":\"absent\",\"number\":1,\"value\":\"flat\"}")?;
+    let failed = refusal(
+        rt.alloc(),
+        "503 Service Unavailable",
+        "",
+        "{\"error\":\"keeper\",\"number\":0,\"value\":0}",
+    )?;
+    let absent = refusal(
+        rt.alloc(),
+        "404 Not Found",
+        "",
+        "{\"error\":\"absent\",\"number\":1,\"value\":\"flat\"}",
+    )?;
     let wanted = format!(in rt.alloc(); "{failed}{absent}{MADE}")?;
     let (status, written) = session(rt.alloc(), bytes.as_bytes(), 13, &[2])?;
     assert_eq!(rt; written.as_slice(), wanted.as_bytes());

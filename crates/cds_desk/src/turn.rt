@@ -77,11 +77,17 @@ fn prepare(
     let response = response_text(alloc, &judged.reply, asked.close, asked.without_body)?;
     let Judged { change, .. } = judged;
     let Some(change) = change else {
-        return Ok(Prepared { response, kept: None });
+        return Ok(Prepared {
+            response,
+            kept: None,
+        });
     };
     let record = write(alloc, &change)?;
     tables.reserve(&change)?;
-    Ok(Prepared { response, kept: Some(Kept { change, record }) })
+    Ok(Prepared {
+        response,
+        kept: Some(Kept { change, record }),
+    })
 }
 
 /// Answers a request. A change is put to the keeper once, when all else is prepared, and then carried out; where
