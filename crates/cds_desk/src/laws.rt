@@ -8,7 +8,6 @@ ghost use Rattle.cds_desk.specs.Step.{judged, after_change};
 
 /// A request that changed the tables, repeated at once: it changes nothing, and its reply is 200 and says that nothing
 /// changed.
-#[tactic(auto, using(crate::proofs::RepeatLaws::repeated))]
 pub fn repeated_request_changes_nothing()
     ensures { (tables : TablesState) (m : Message) (moment again : ℕ) → IsTrue (is_some (judged tables m moment).change)
         → IsUnchanged (judged (after_change tables (judged tables m moment).change) m again) }

@@ -101,6 +101,7 @@ pub fn run<S: Source, W: Sink, K: Keeper, C: Clock, D: Door, L: Ledger>(
         × Sent (W.written sink.old) (W.written sink.new) (W.faults sink.old) (W.faults sink.new) (damaged_line number)) }
     ensures damaged_reads_nothing { result ≡ 8 → source.new ≡ source.old }
     ensures damaged_only { is_session (map string_bytes words.now) ≡ true → IfSome (K.finds keeper.old []) (λ found. damage_of found ≢ None → EndsUnserved result) }
+    ensures session_without_memory_reads_nothing { result ≡ 6 → is_session (map string_bytes words.now) ≡ true → source.new ≡ source.old }
     ensures session_takes_no_step { is_session (map string_bytes words.now) ≡ true → steps.new ≡ steps.old }
 
     // ---- any command
@@ -156,6 +157,8 @@ fn peaks<S: Source, W: Sink, L: Ledger>(
         (answer.status ≡ DONE) × HoldsPrefix (W.written sink.old) (W.written sink.new) answer.text) }
     ensures no_memory_writes_nothing { result ≡ NO_MEMORY → sink.new ≡ sink.old }
     ensures is_command { result ≢ NO_COMMAND }
+    ensures loads_nothing { result ≢ KEEPER_FAILED }
+    ensures opens_nothing { result ≢ DAMAGED }
     ensures statuses { IsStatus result }
     ensures source_counts { S.faults source.old ≤ S.faults source.new }
     ensures sink_counts { W.faults sink.old ≤ W.faults sink.new }
