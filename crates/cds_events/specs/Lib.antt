@@ -1,0 +1,10 @@
+pub mod Extremes
+pub mod Pieces
+pub mod Placed
+pub mod Runs
+pub mod Parts
+pub mod Drops
+pub mod Segments
+pub mod Arrangement
+pub mod Standing
+pub mod Row
