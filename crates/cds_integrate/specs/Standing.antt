@@ -1,0 +1,38 @@
+-- How the parts of a cluster stand on their lines. For private functions alone.
+use Rattle.std.specs.Prelude.{◌≡◌, ℕ, ◌+◌, ◌-◌, ◌*◌, ◌<◌, ◌≤◌, Bool, true, false, List, [], ◌∷◌, All, length, pos, ◌≤ℤ◌, unsigned_abs}
+use Rattle.std.specs.List.{sum_by}
+use Rattle.cds_trace.specs.Signal.{Signal}
+use Rattle.cds_events.specs.Standing.{IsCrest}
+use Rattle.cds_integrate.specs.declared.shapes.Shape.{Shape}
+use Rattle.cds_integrate.specs.declared.measures.Measured.{Measured}
+use Rattle.cds_integrate.specs.declared.found.Found.{Found}
+use Rattle.cds_integrate.specs.Measures.{area_end, twice_whole_area}
+
+-- a part whose range lies on its line, and that within the trace
+pub record IsShape (signal : Signal) (shape : Shape) : Type 0 where
+  pub low : shape.start ≤ shape.apex
+  pub high : shape.apex ≤ shape.end
+  pub order : shape.start < shape.end
+  pub reaches : shape.end ≤ shape.reach
+  pub from : shape.line.from ≤ shape.start
+  pub to : shape.end ≤ shape.line.to
+  pub within : shape.line.to < length signal.samples
+  pub levels : (unsigned_abs shape.line.from_y ≤ 100000000) × (unsigned_abs shape.line.to_y ≤ 100000000)
+  pub crest : shape.start < shape.apex → shape.apex < shape.end → IsCrest signal shape.apex
+  -- a rider lies over the whole of its line, and nowhere under it
+  pub whole : shape.rider ≡ true → (shape.line.from ≡ shape.start) × (shape.line.to ≡ shape.end)
+  pub over : shape.rider ≡ true → pos 0 ≤ℤ twice_whole_area signal shape.line
+
+-- the line of a part reaches as far as its area goes
+abbrev pub Reaches : Shape → List Shape → Type 0
+Reaches shape later = area_end shape later ≤ shape.line.to
+
+-- parts in a row, each of which begins where the one before reaches
+abbrev pub InRow : Signal → ℕ → List Shape → ℕ → Type 0
+InRow signal start [] end = start ≡ end
+InRow signal start (shape ∷ later) end =
+    (shape.start ≡ start) × IsShape signal shape × Reaches shape later × InRow signal shape.reach later end
+
+-- how many samples these ranges have, but one for each
+abbrev pub widths : List Found → ℕ
+widths found = sum_by (λ one. one.part.shape.end - one.part.shape.start) found

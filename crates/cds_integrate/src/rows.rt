@@ -1,0 +1,1 @@
+use crate::row_part::RowPart;

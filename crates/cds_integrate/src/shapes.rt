@@ -1,0 +1,198 @@
+ghost use Rattle.std.specs.Prelude.{◌≡◌, ◌+◌, ◌-◌, ◌*◌, ◌==◌, ◌<◌, ◌≤◌, ◌++◌, All, IfOk, length, map};
+ghost use Rattle.std.specs.List.{list_any};
+ghost use Rattle.std.specs.Vec.{vec_len};
+ghost use Rattle.cds_detect.specs.Slopes.{is_in_window};
+ghost use Rattle.cds_baseline.specs.Cluster.{is_valley, Tiles};
+ghost use Rattle.cds_events.specs.Standing.{IsCluster};
+ghost use Rattle.cds_integrate.specs.Lines.{last_up_to, first_behind};
+ghost use Rattle.cds_integrate.specs.Shapes.{covers, skims, is_covered, nodes_of, is_skimmed, shape_of, shapes_of};
+
+use crate::lines::{chord, first_behind, last_up_to};
+use cds_base::{Boundary, Cluster, Event, Line, NoMemory, Part, Steps};
+use cds_baseline::{nodes, tangent};
+use cds_rules::Method;
+use cds_trace::Trace;
+use std::alloc::Global;
+use std::sync::ledger::Ledger;
+
+/// The times of events are in milliseconds.
+const MILLISECOND_US: u64 = 1000;
+
+/// A part with the line below it: its range and apex, where its part of the cluster ends (`reach`), and whether it is
+/// skimmed off by a tangent.
+#[derive(Clone, Copy, Debug)]
+pub(crate) struct Shape {
+    pub start: u32,
+    pub apex: u32,
+    pub end: u32,
+    pub reach: u32,
+    pub rider: bool,
+    pub line: Line,
+}
+
+/// Whether a time lies in a window, which is in milliseconds and doesn't have its end.
+fn is_in_window(from: u32, to: u32, time_us: u64) -> bool
+    ensures { result ≡ is_in_window from to time_us }
+{
+    MILLISECOND_US * u64::from(from) <= time_us && time_us < MILLISECOND_US * u64::from(to)
+}
+
+/// Whether the event makes a valley at this time a node.
+fn covers(time_us: u64, event: Event) -> bool
+    ensures { result ≡ covers time_us event }
+{
+    match event {
+        Event::Valley { from, to } => is_in_window(from, to, time_us),
+        _ => false,
+    }
+}
+
+/// Whether the event skims off the part behind a valley at this time.
+fn skims(time_us: u64, event: Event) -> bool
+    ensures { result ≡ skims time_us event }
+{
+    match event {
+        Event::Skim { from, to } => is_in_window(from, to, time_us),
+        _ => false,
+    }
+}
+
+/// Whether one of these events makes a valley at this time a node.
+fn covers_any(time_us: u64, events: &[Event]) -> bool
+    ensures { result ≡ list_any (covers time_us) events.now }
+{
+    events.iter().any(|event| covers(time_us, *event))
+}
+
+/// Whether one of these events skims off the part behind a valley at this time.
+fn skims_any(time_us: u64, events: &[Event]) -> bool
+    ensures { result ≡ list_any (skims time_us) events.now }
+{
+    events.iter().any(|event| skims(time_us, *event))
+}
+
+/// Whether the left end of a part is a valley.
+fn is_valley(part: Part) -> bool
+    ensures { result ≡ is_valley part.left }
+{
+    matches!(part.left, Boundary::Valley)
+}
+
+/// The time of a sample of the trace, in microseconds.
+fn time_of(trace: &Trace, sample: u32) -> u64
+    requires { sample < length trace.now.samples }
+    ensures { result ≡ sample * trace.now.period }
+{
+    let samples = trace.len();
+    prove!(sample < samples);
+    u64::from(sample) * trace.period()
+}
+
+/// Whether the left end of a part is a valley in the window of a valley event.
+fn is_covered(part: Part, trace: &Trace, method: &Method, manual: &[Event]) -> bool
+    requires { part.start < length trace.now.samples }
+    ensures { result ≡ is_covered trace.now (method.now.events ++ manual.now) part }
+{
+    let time = time_of(trace, part.start);
+    is_valley(part) && (covers_any(time, method.events.as_slice()) || covers_any(time, manual))
+}
+
+/// Whether the left end of a part is a valley in the window of a skim event, and no node.
+fn is_skimmed(part: Part, nodes: &[u32], trace: &Trace, method: &Method, manual: &[Event]) -> bool
+    requires { part.start < length trace.now.samples }
+    ensures { result ≡ is_skimmed trace.now (method.now.events ++ manual.now) nodes.now part }
+{
+    let time = time_of(trace, part.start);
+    let skimmed = skims_any(time, method.events.as_slice()) || skims_any(time, manual);
+    is_valley(part) && skimmed && !nodes.iter().any(|node| *node == part.start)
+}
+
+/// The shape of a part over a baseline with these nodes. At most four steps for each of its samples but one.
+fn shape_of<L: Ledger>(
+    part: Part,
+    nodes: &[u32],
+    trace: &Trace,
+    method: &Method,
+    manual: &[Event],
+    steps: &mut Steps<L>,
+) -> Shape
+    requires rises { part.start ≤ part.apex }
+    requires order { part.start < part.end }
+    requires within { part.end < length trace.now.samples }
+    requires from { last_up_to nodes.now part.start < length trace.now.samples }
+    requires to { first_behind nodes.now part.start < length trace.now.samples }
+    ensures value { result ≡ shape_of trace.now (method.now.events ++ manual.now) nodes.now part }
+    ensures least { steps.old ≤ steps.new }
+    ensures most { steps.new + 4 * part.start ≤ steps.old + 4 * part.end }
+{
+    let mut end = part.start;
+    if is_skimmed(part, nodes, trace, method, manual) {
+        end = tangent(part.start, part.end, trace, steps);
+    }
+    if part.apex < end {
+        return Shape {
+            start: part.start,
+            apex: part.apex,
+            end,
+            reach: part.end,
+            rider: true,
+            line: chord(part.start, end, trace, steps),
+        };
+    }
+    Shape {
+        start: part.start,
+        apex: part.apex,
+        end: part.end,
+        reach: part.end,
+        rider: false,
+        line: chord(
+            last_up_to(nodes, part.start),
+            first_behind(nodes, part.start),
+            trace,
+            steps,
+        ),
+    }
+}
+
+/// For each part of a cluster whether its left end is a valley in the window of a valley event.
+fn covered_marks(
+    alloc: Global,
+    parts: &[Part],
+    trace: &Trace,
+    method: &Method,
+    manual: &[Event],
+) -> Result<Vec<bool>, NoMemory>
+    requires { All (λ part. part.start < length trace.now.samples) parts.now }
+    ensures marks { IfOk result (λ v. v.items ≡ map (is_covered trace.now (method.now.events ++ manual.now)) parts.now) }
+    ensures len { IfOk result (λ v. vec_len v ≡ length parts.now) }
+{
+    let mut marks = Vec::with_capacity(alloc, parts.len())?;
+    for part in parts {
+        marks.push(is_covered(*part, trace, method, manual))?;
+    }
+    Ok(marks)
+}
+
+/// The parts of a cluster with the lines below them, in their order. At most six steps for each of its samples but one.
+pub(crate) fn shapes_of<L: Ledger>(
+    alloc: Global,
+    cluster: &Cluster,
+    trace: &Trace,
+    method: &Method,
+    manual: &[Event],
+    steps: &mut Steps<L>,
+) -> Result<Vec<Shape>, NoMemory>
+    requires { IsCluster trace.now 0 cluster.now }
+    ensures value { IfOk result (λ v. v.items ≡ shapes_of trace.now (method.now.events ++ manual.now) cluster.now) }
+    ensures least { steps.old ≤ steps.new }
+    ensures most { steps.new + 6 * cluster.now.start ≤ steps.old + 6 * cluster.now.end }
+{
+    let parts = cluster.parts.as_slice();
+    let covered = covered_marks(alloc, parts, trace, method, manual)?;
+    let nodes = nodes(alloc, cluster, &covered, trace, steps)?;
+    let mut shapes = Vec::with_capacity(alloc, parts.len())?;
+    for part in parts {
+        shapes.push(shape_of(*part, nodes.as_slice(), trace, method, manual, steps))?;
+    }
+    Ok(shapes)
+}
