@@ -1,11 +1,12 @@
 -- The peaks of a row: the parts that aren't rejected, each with its widths, its valley and its name. This project's own rules.
-use Rattle.std.specs.Prelude.{◌≡◌, ℕ, suc, ◌*◌, ◌&&◌, ◌==◌, Bool, false, not, List, [], ◌∷◌, Option, Some, None, option_map, ℤ, pos, int_lt, position, if◌then◌else◌}
-use Rattle.std.specs.List.{filter}
+use Rattle.std.specs.Prelude.{◌≡◌, ℕ, suc, ◌-◌, ◌*◌, ◌&&◌, ◌==◌, Bool, false, not, List, [], ◌∷◌, Option, Some, None, length, ℤ, pos, int_lt, if◌then◌else◌}
+use Rattle.std.specs.List.{filter, find, range_with_len}
 use Rattle.cds_base.specs.declared.peak.Ratio.{Ratio}
 use Rattle.cds_base.specs.declared.peak.Peak.{Peak}
 use Rattle.cds_rules.specs.declared.method.Method.{Method}
 use Rattle.cds_trace.specs.Signal.{Signal}
 use Rattle.cds_area.specs.Area.{IsRatio, span, height_by_span}
+use Rattle.cds_names.specs.Naming.{peak_of}
 use Rattle.cds_figures.specs.Crossings.{crossings_of}
 use Rattle.cds_integrate.specs.declared.shapes.Shape.{Shape}
 use Rattle.cds_integrate.specs.declared.measures.Measured.{Measured}
@@ -75,7 +76,7 @@ gives place (Some peak) = peak == place
 
 -- the number, from 1, of the component that the peak at this place is named
 abbrev pub component_of : List (Option ℕ) → ℕ → Option ℕ
-component_of naming place = option_map suc (position (gives place) naming)
+component_of naming place = find (λ number. gives place (peak_of naming (number - 1))) (range_with_len 1 (length naming))
 
 -- the peaks of a row, in their order, from this place on
 abbrev pub ArePeaks : Signal → Method → List (Option ℕ) → ℕ → List Found → List Peak → Type 0

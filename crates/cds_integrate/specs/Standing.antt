@@ -1,12 +1,14 @@
 -- How the parts of a cluster stand on their lines. For private functions alone.
-use Rattle.std.specs.Prelude.{◌≡◌, ℕ, ◌+◌, ◌-◌, ◌*◌, ◌<◌, ◌≤◌, Bool, true, false, List, [], ◌∷◌, All, length, pos, ◌≤ℤ◌, unsigned_abs}
-use Rattle.std.specs.List.{sum_by}
+use Rattle.std.specs.Prelude.{◌≡◌, ℕ, ◌+◌, ◌-◌, ◌*◌, ◌<◌, ◌≤◌, Bool, true, false, List, [], ◌∷◌, All, length, pos, ◌≤ℤ◌, unsigned_abs, IfSome}
+use Rattle.std.specs.List.{sum_by, fold}
+use Rattle.cds_rules.specs.declared.method.Method.{Method}
 use Rattle.cds_trace.specs.Signal.{Signal}
+use Rattle.cds_area.specs.Area.{span, height_by_span}
 use Rattle.cds_events.specs.Standing.{IsCrest}
 use Rattle.cds_integrate.specs.declared.shapes.Shape.{Shape}
 use Rattle.cds_integrate.specs.declared.measures.Measured.{Measured}
 use Rattle.cds_integrate.specs.declared.found.Found.{Found}
-use Rattle.cds_integrate.specs.Measures.{area_end, twice_whole_area}
+use Rattle.cds_integrate.specs.Measures.{riders, area_end, twice_whole_area, is_rejected}
 
 -- a part whose range lies on its line, and that within the trace
 pub record IsShape (signal : Signal) (shape : Shape) : Type 0 where
@@ -36,3 +38,20 @@ InRow signal start (shape ∷ later) end =
 -- how many samples these ranges have, but one for each
 abbrev pub widths : List Found → ℕ
 widths found = sum_by (λ one. one.part.shape.end - one.part.shape.start) found
+
+-- where the part of the last rider among those directly ahead ends, or this sample where there is none
+abbrev pub from_reach : ℕ → List Shape → ℕ
+from_reach reach later = fold (λ reach rider. rider.reach) reach (riders later)
+
+-- a part whose measures are those of its line, within what is reported
+pub record IsMeasured (signal : Signal) (part : Measured) : Type 0 where
+  pub shape : IsShape signal part.shape
+  pub area : unsigned_abs part.area ≤ 2 * 100000000 * (length signal.samples - 1) * (2 * span part.shape.line)
+  pub height : part.height ≡ height_by_span signal part.shape.line part.shape.apex
+  pub small : unsigned_abs part.height < 2 ^ 60
+
+-- a found part, and the one before it
+pub record IsFound (signal : Signal) (method : Method) (found : Found) : Type 0 where
+  pub part : IsMeasured signal found.part
+  pub before : IfSome found.before (IsMeasured signal)
+  pub kept : is_rejected signal method found.part ≡ false

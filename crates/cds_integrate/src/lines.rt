@@ -37,5 +37,10 @@ pub(crate) fn last_up_to(nodes: &[u32], at: u32) -> u32
 pub(crate) fn first_behind(nodes: &[u32], at: u32) -> u32
     ensures { result ≡ first_behind nodes.now at }
 {
-    nodes.iter().copied().find(|node| at < *node).unwrap_or(at)
+    for node in nodes {
+        if at < *node {
+            return *node;
+        }
+    }
+    at
 }

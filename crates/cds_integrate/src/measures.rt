@@ -1,8 +1,8 @@
-ghost use Rattle.std.specs.Prelude.{◌≡◌, ◌+◌, ◌-◌, ◌*◌, ◌^◌, ◌<◌, ◌≤◌, ℕ, pos, ◌*ℤ◌, ◌≤ℤ◌, IfOk, length, drop, unsigned_abs, nat_abs};
+ghost use Rattle.std.specs.Prelude.{◌≡◌, ◌+◌, ◌-◌, ◌*◌, ◌^◌, ◌<◌, ◌≤◌, ℕ, pos, ◌*ℤ◌, ◌≤ℤ◌, All, IfOk, int_lt, length, unsigned_abs};
 ghost use Rattle.std.specs.Vec.{vec_len};
-ghost use Rattle.cds_area.specs.Area.{span, area_by_double_span};
+ghost use Rattle.cds_area.specs.Area.{span};
 ghost use Rattle.cds_integrate.specs.Measures.{area_end, gross_area, gross_areas, twice_whole_area, twice_areas, riders, measure, measured, reported_area, is_rejected};
-ghost use Rattle.cds_integrate.specs.Standing.{IsShape, Reaches, InRow};
+ghost use Rattle.cds_integrate.specs.Standing.{IsShape, Reaches, InRow, IsMeasured};
 
 use crate::shapes::Shape;
 use cds_area::{area, height, units};
@@ -85,5 +85,129 @@ fn twice_whole_area(rider: Shape, gross: i128, trace: &Trace) -> i128
     requires over { pos 0 ≤ℤ twice_whole_area trace.now rider.line }
     ensures { result ≡ twice_whole_area trace.now rider.line }
 {
-    gross / i128::from(span(rider.line))
+    (gross.unsigned_abs() / u128::from(span(rider.line))) as i128
+}
+
+/// Twice the areas of the riders directly ahead, from the gross areas of the parts there.
+fn taken(later: &[Shape], gross: &[i128], trace: &Trace) -> i128
+    requires row { (start : ℕ) × (end : ℕ) × InRow trace.now start later.now end }
+    requires gross { gross.now ≡ gross_areas trace.now later.now }
+    requires few { length later.now < 2 ^ 32 }
+    ensures value { result ≡ twice_areas trace.now (riders later.now) }
+    ensures least { pos 0 ≤ℤ result }
+    ensures small { unsigned_abs result ≤ 2 ^ 66 * length later.now }
+{
+    let mut sum = 0;
+    for k in 0..later.len() {
+        if !later[k].rider {
+            return sum;
+        }
+        sum += twice_whole_area(later[k], gross[k], trace);
+    }
+    sum
+}
+
+/// A part with its area and its height, from its gross area and those of the parts behind it. One step.
+fn measure<L: Ledger>(
+    shape: Shape,
+    later: &[Shape],
+    gross: i128,
+    later_gross: &[i128],
+    trace: &Trace,
+    steps: &mut Steps<L>,
+) -> Measured
+    requires shape { IsShape trace.now shape }
+    requires row { (start : ℕ) × (end : ℕ) × InRow trace.now start later.now end }
+    requires gross { gross ≡ gross_area trace.now shape later.now }
+    requires later_gross { later_gross.now ≡ gross_areas trace.now later.now }
+    requires few { length later.now < 2 ^ 32 }
+    ensures value { result ≡ measure trace.now shape later.now }
+    ensures counted { steps.new ≡ steps.old + 1 }
+{
+    let riders = if shape.rider {
+        0
+    } else {
+        taken(later, later_gross, trace)
+    };
+    Measured {
+        shape,
+        area: gross - riders * i128::from(span(shape.line)),
+        height: height(shape.apex, &shape.line, trace, steps).num,
+    }
+}
+
+/// Parts in a row with their areas and heights. Five steps for each.
+pub(crate) fn measure_all<L: Ledger>(
+    alloc: Global,
+    shapes: &[Shape],
+    trace: &Trace,
+    steps: &mut Steps<L>,
+) -> Result<Vec<Measured>, NoMemory>
+    requires { (start : ℕ) × (end : ℕ) × InRow trace.now start shapes.now end }
+    ensures value { IfOk result (λ v. v.items ≡ measured trace.now shapes.now) }
+    ensures measured { IfOk result (λ v. All (IsMeasured trace.now) v.items) }
+    ensures least { steps.old ≤ steps.new }
+    ensures most { steps.new ≤ steps.old + 5 * length shapes.now }
+{
+    let gross = gross_areas(alloc, shapes, trace, steps)?;
+    let mut parts = Vec::with_capacity(alloc, shapes.len())?;
+    for k in 0..shapes.len() {
+        let (later, later_gross) = (&shapes[k + 1..], &gross[k + 1..]);
+        parts.push(measure(shapes[k], later, gross[k], later_gross, trace, steps))?;
+    }
+    Ok(parts)
+}
+
+/// The exact area of a part, in count samples.
+pub(crate) fn area_ratio(part: Measured) -> Ratio
+    requires { part.shape.line.from < part.shape.line.to }
+    ensures num { result.num ≡ part.area }
+    ensures den { result.den ≡ 2 * span part.shape.line }
+{
+    Ratio {
+        num: part.area,
+        den: 2 * u64::from(span(part.shape.line)),
+    }
+}
+
+/// The exact height of a part, in counts.
+pub(crate) fn height_ratio(part: Measured) -> Ratio
+    requires { part.shape.line.from < part.shape.line.to }
+    ensures num { result.num ≡ part.height }
+    ensures den { result.den ≡ span part.shape.line }
+{
+    Ratio {
+        num: part.height,
+        den: u64::from(span(part.shape.line)),
+    }
+}
+
+/// The reported area of a part whose area isn't negative, in count milliseconds.
+pub(crate) fn reported_area(part: Measured, trace: &Trace) -> u64
+    requires part { IsMeasured trace.now part }
+    requires sign { pos 0 ≤ℤ part.area }
+    ensures value { result ≡ reported_area trace.now part }
+    ensures small { result < 2 ^ 52 }
+{
+    units(area_ratio(part), trace.period())
+}
+
+/// Whether a part's height is below the method's least.
+fn is_low(part: Measured, method: &Method) -> bool
+    requires { part.shape.line.from < part.shape.line.to }
+    ensures { result ≡ int_lt part.height (pos (method.now.min_height * span part.shape.line)) }
+{
+    part.height < i128::from(u64::from(method.min_height) * u64::from(span(part.shape.line)))
+}
+
+/// Whether a part is rejected: its area or height isn't positive, or its reported area or its exact height is below the
+/// method's least.
+pub(crate) fn is_rejected(part: Measured, trace: &Trace, method: &Method) -> bool
+    requires { IsMeasured trace.now part }
+    ensures { result ≡ is_rejected trace.now method.now part }
+{
+    if part.area <= 0 || part.height <= 0 {
+        return true;
+    }
+    reported_area(part, trace) < method.min_area || is_low(part, method)
 }

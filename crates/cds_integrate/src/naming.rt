@@ -1,6 +1,7 @@
 ghost use Rattle.std.specs.Prelude.{◌≡◌, ◌*◌, ◌<◌, ◌≤◌, All, IfOk, length, map};
 ghost use Rattle.std.specs.Vec.{vec_len};
-ghost use Rattle.cds_integrate.specs.Peaks.{component_of};
+ghost use Rattle.cds_rules.specs.declared.limits.TheConstants.{MOST_COMPONENTS};
+ghost use Rattle.cds_integrate.specs.Peaks.{gives, component_of};
 ghost use Rattle.cds_integrate.specs.Row.{window_of, windows_of, apex_time};
 
 use crate::found::Found;
@@ -47,14 +48,25 @@ pub(crate) fn apex_times(
     Ok(times)
 }
 
+/// Whether a component's entry in a naming gives it the peak at this place.
+fn gives(entry: Option<u32>, place: u32) -> bool
+    ensures { result ≡ gives place entry }
+{
+    match entry {
+        Some(peak) => peak == place,
+        None => false,
+    }
+}
+
 /// The number, from 1, of the component that the peak at this place is named, among so many components.
 pub(crate) fn component_of(names: &Names, count: u32, place: u32) -> Option<u32>
-    requires { length names.now ≡ count }
+    requires whole { length names.now ≡ count }
+    requires few { count ≤ MOST_COMPONENTS }
     ensures { result ≡ component_of names.now place }
 {
-    for component in 0..count {
-        if names.of(component) == Some(place) {
-            return Some(component + 1);
+    for number in 1..count + 1 {
+        if gives(names.of(number - 1), place) {
+            return Some(number);
         }
     }
     None

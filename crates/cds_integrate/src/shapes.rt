@@ -78,6 +78,13 @@ fn is_valley(part: Part) -> bool
     matches!(part.left, Boundary::Valley)
 }
 
+/// Whether a sample is one of these nodes.
+fn is_node(sample: u32, nodes: &[u32]) -> bool
+    ensures { result ≡ list_any (λ node. node == sample) nodes.now }
+{
+    nodes.iter().any(|node| *node == sample)
+}
+
 /// The time of a sample of the trace, in microseconds.
 fn time_of(trace: &Trace, sample: u32) -> u64
     requires { sample < length trace.now.samples }
@@ -104,7 +111,7 @@ fn is_skimmed(part: Part, nodes: &[u32], trace: &Trace, method: &Method, manual:
 {
     let time = time_of(trace, part.start);
     let skimmed = skims_any(time, method.events.as_slice()) || skims_any(time, manual);
-    is_valley(part) && skimmed && !nodes.iter().any(|node| *node == part.start)
+    is_valley(part) && (skimmed && !is_node(part.start, nodes))
 }
 
 /// The shape of a part over a baseline with these nodes. At most four steps for each of its samples but one.

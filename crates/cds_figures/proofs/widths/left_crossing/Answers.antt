@@ -44,5 +44,6 @@ loop-i-preserved g c =
       inner = simp to_z-of_z c.scaled_height-outer.ensures.value;
       above = simp to_z-of_z up;
       search = sym on ∙ c.loop-i.invariant.search;
+      least = omega (arith, c.loop-i.invariant.least, c.scaled_height-outer.ensures.counted);
       counted = omega (arith, c.loop-i.invariant.counted, c.scaled_height-outer.ensures.counted, c.loop-i-test.true);
     }

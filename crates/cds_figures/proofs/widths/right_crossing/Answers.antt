@@ -33,5 +33,6 @@ loop-i-preserved g c =
       inner = rw here (simp to_z-of_z c.scaled_height-outer.ensures.value);
       above = simp to_z-of_z up;
       search = sym on ∙ c.loop-i.invariant.search;
+      least = omega (arith, c.loop-i.invariant.least, c.scaled_height-outer.ensures.counted);
       counted = omega arith;
     }
