@@ -4,3 +4,4 @@ pub mod Told
 pub mod Source
 pub mod Sink
 pub mod NameLaws
+pub mod Tiles

@@ -5,7 +5,8 @@ use Rattle.std.proofs.lemmas.Bool.{cases_Bool, cases_eq}
 use Rattle.std.proofs.lemmas.List.{drop_more, length-append, length-drop, append_assoc, get_or_at, take_rest}
 use Rattle.std.proofs.lemmas.List.Elements.{All-from_get_or}
 use Rattle.cds_base.specs.declared.cluster.Part.{Part}
-use Rattle.cds_baseline.specs.Cluster.{Tiles, is_valley, valleys, marks, inner}
+use Rattle.cds_base.specs.Tiles.{Tiles}
+use Rattle.cds_baseline.specs.Cluster.{is_valley, valleys, marks, inner}
 use Rattle.cds_baseline.specs.Nodes.{sample_of, is_fixed}
 use Rattle.cds_baseline.specs.Chain.{IsRising}
 

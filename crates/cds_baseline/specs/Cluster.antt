@@ -1,17 +1,11 @@
--- The points of a cluster, between which its baseline is stretched, and how its parts lie.
-use Rattle.std.specs.Prelude.{◌≡◌, ℕ, ◌<◌, Bool, true, false, List, [], ◌∷◌, ◌++◌, drop, if◌then◌else◌}
+-- The points of a cluster, between which its baseline is stretched.
+use Rattle.std.specs.Prelude.{ℕ, Bool, true, false, List, [], ◌∷◌, ◌++◌, drop, if◌then◌else◌}
 use Rattle.cds_base.specs.declared.cluster.Boundary.{Boundary}
 use Rattle.cds_base.specs.declared.cluster.Boundary.TheVariants.{Start, Valley, Drop}
 use Rattle.cds_base.specs.declared.cluster.Part.{Part}
 use Rattle.cds_base.specs.declared.cluster.Cluster.{Cluster}
 use Rattle.cds_trace.specs.Signal.{Signal}
 use Rattle.cds_baseline.specs.Nodes.{node_samples}
-
--- parts tile a range: the first begins at its start, each next one where the one before ends, each ends behind its own
--- start, and the last ends at the end of the range
-abbrev pub Tiles : ℕ → List Part → ℕ → Type 0
-Tiles start [] end = start ≡ end
-Tiles start (part ∷ parts) end = (part.start ≡ start) × (start < part.end) × Tiles part.end parts end
 
 -- whether the left end of a part is a valley
 abbrev pub is_valley : Boundary → Bool

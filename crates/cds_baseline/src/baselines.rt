@@ -1,8 +1,9 @@
 ghost use Rattle.std.specs.Prelude.{◌≡◌, ◌+◌, ◌-◌, ◌<◌, ◌≤◌, true, IfOk, All, length, map, if◌then◌else◌};
 ghost use Rattle.std.specs.Vec.{vec_len};
+ghost use Rattle.cds_base.specs.Tiles.{Tiles};
 ghost use Rattle.cds_trace.specs.Signal.{sample_at};
 ghost use Rattle.cds_baseline.specs.Nodes.{sample_of, is_fixed, node_samples};
-ghost use Rattle.cds_baseline.specs.Cluster.{Tiles, cluster_nodes};
+ghost use Rattle.cds_baseline.specs.Cluster.{cluster_nodes};
 ghost use Rattle.cds_baseline.specs.Chain.{IsRising};
 
 use crate::hulls::chain_over;

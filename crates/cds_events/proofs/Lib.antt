@@ -1,0 +1,10 @@
+pub mod ListLaws
+pub mod FirstLaws
+pub mod TopLaws
+pub mod RunLaws
+pub mod SegmentLaws
+pub mod CutLaws
+pub mod PartLaws
+pub mod PieceLaws
+pub mod PlaceLaws
+pub mod ClusterLaws

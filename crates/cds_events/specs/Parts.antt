@@ -1,5 +1,5 @@
 -- The parts of a run of fused peaks: one for each peak, cut at the valleys. This project's own rule.
-use Rattle.std.specs.Prelude.{◌≡◌, ℕ, ◌+◌, ◌-◌, ◌<◌, List, [], ◌∷◌}
+use Rattle.std.specs.Prelude.{ℕ, ◌+◌, ◌-◌, List, [], ◌∷◌}
 use Rattle.cds_base.specs.declared.cluster.Boundary.{Boundary}
 use Rattle.cds_base.specs.declared.cluster.Boundary.TheVariants.{Valley}
 use Rattle.cds_base.specs.declared.cluster.Part.{Part}
@@ -22,9 +22,3 @@ parts_from signal start left [] = []
 parts_from signal start left (peak ∷ later) =
     let end = part_end signal peak later in
     record { start = start; apex = peak.apex; end = end; left = left } ∷ parts_from signal end Valley later
-
--- parts tile a range: the first begins at its start, each next one where the one before ends, each ends behind its own
--- start, and the last ends at the end of the range
-abbrev pub Tiles : ℕ → List Part → ℕ → Type 0
-Tiles start [] end = start ≡ end
-Tiles start (part ∷ parts) end = (part.start ≡ start) × (start < part.end) × Tiles part.end parts end

@@ -7,20 +7,16 @@ use Rattle.cds_base.specs.declared.cluster.Boundary.TheVariants.{Start}
 use Rattle.cds_base.specs.declared.cluster.Part.{Part}
 use Rattle.cds_base.specs.declared.cluster.Cluster.{Cluster}
 use Rattle.cds_trace.specs.Signal.{Signal, sample_at}
-use Rattle.cds_events.specs.Parts.{Tiles}
-
--- a sample that is above the one before it, and that the one behind it isn't above
-pub record IsCrest (signal : Signal) (apex : ℕ) : Type 0 where
-  pub rises : sample_at signal (apex - 1) <ℤ sample_at signal apex
-  pub falls : sample_at signal (apex + 1) ≤ℤ sample_at signal apex
+use Rattle.cds_events.specs.Extremes.{first_greatest}
+use Rattle.cds_base.specs.Tiles.{Tiles}
 
 -- a raw peak that begins at this sample or behind it
 pub record IsRaw (signal : Signal) (at : ℕ) (peak : RawPeak) : Type 0 where
   pub follows : at ≤ peak.start
-  -- its apex lies strictly inside, and is a crest
+  -- its apex lies strictly inside, and is the first greatest sample of its range
   pub rises : peak.start < peak.apex
   pub falls : peak.apex < peak.end
-  pub crest : IsCrest signal peak.apex
+  pub apex : peak.apex ≡ first_greatest signal peak.start peak.end
   -- it ends within the trace
   pub ends : peak.end < length signal.samples
 
@@ -28,6 +24,11 @@ pub record IsRaw (signal : Signal) (at : ℕ) (peak : RawPeak) : Type 0 where
 abbrev pub RawFrom : Signal → ℕ → List RawPeak → Type 0
 RawFrom signal at [] = Unit {0}
 RawFrom signal at (peak ∷ peaks) = IsRaw signal at peak × RawFrom signal peak.end peaks
+
+-- a sample that is above the one before it, and that the one behind it isn't above
+pub record IsCrest (signal : Signal) (apex : ℕ) : Type 0 where
+  pub rises : sample_at signal (apex - 1) <ℤ sample_at signal apex
+  pub falls : sample_at signal (apex + 1) ≤ℤ sample_at signal apex
 
 -- a part whose apex lies in its range, and is a crest where it lies strictly inside
 pub record IsPart (signal : Signal) (part : Part) : Type 0 where

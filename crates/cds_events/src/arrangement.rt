@@ -62,8 +62,9 @@ fn clusters_of_runs<L: Ledger>(
     let mut rest = peaks;
     while !rest.is_empty() {
         let count = run_length(gap, pieces, rest);
-        clusters.push(cluster_of(alloc, &rest[..count], drops, trace, steps)?)?;
-        rest = &rest[count..];
+        let (run, later) = rest.split_at(count);
+        clusters.push(cluster_of(alloc, run, drops, trace, steps)?)?;
+        rest = later;
     }
     Ok(clusters)
 }
@@ -84,8 +85,8 @@ fn clusters_of_runs<L: Ledger>(
 /// peak. Then each drop event, in the order of the list, cuts the part that has its sample strictly inside and its apex
 /// elsewhere. The piece with the apex keeps it, and the other's apex is its first greatest sample.
 ///
-/// The raw peaks must stand one after the other in the trace, the apex of each strictly inside its range, above the
-/// sample before it and not below the one behind it, as those that the detector finds do. The answer is the clusters in
+/// The raw peaks must stand one after the other in the trace, the apex of each strictly inside its range and its first
+/// greatest sample, as those that the detector finds do. The answer is the clusters in
 /// the order of their ranges, which share ends at most. Want of memory is the one other answer. At most 3 steps for each
 /// sample of the trace, however many events there are. The rules are this project's own.
 pub fn arrange<L: Ledger>(

@@ -1,5 +1,6 @@
 ghost use Rattle.std.specs.Prelude.{◌≡◌, ◌+◌, ◌-◌, ◌*◌, ◌≤◌, ◌++◌, ◌∷◌, [], All, OnOk, IfOk};
-ghost use Rattle.std.specs.List.{sum_by};
+ghost use Rattle.std.specs.List.{sum_by, list_any};
+ghost use Rattle.cds_trace.specs.Signal.{IsTrace};
 ghost use Rattle.cds_events.specs.Drops.{drop_sample, drop_samples, crosses, is_cut, cut_by, front, back, cut_all};
 ghost use Rattle.cds_events.specs.Segments.{cut_each_by, top_within};
 ghost use Rattle.cds_events.specs.Row.{IsInside};
@@ -43,7 +44,8 @@ pub(crate) fn drop_lines(
     method: &Method,
     manual: &[Event],
 ) -> Result<Vec<u64>, NoMemory>
-    ensures { IfOk result (λ v. v.items ≡ drop_samples trace.now.period (method.now.events ++ manual.now)) }
+    ensures value { IfOk result (λ v. v.items ≡ drop_samples trace.now.period (method.now.events ++ manual.now)) }
+    ensures trace { IsTrace trace.now }
 {
     let period = trace.period();
     let mut drops = Vec::new(alloc);
@@ -57,6 +59,13 @@ fn crosses(at: u64, part: Part) -> bool
     ensures { result ≡ crosses at part }
 {
     u64::from(part.start) < at && at < u64::from(part.end)
+}
+
+/// Whether one of the drop lines has this part on both of its sides.
+fn is_crossed(part: Part, drops: &[u64]) -> bool
+    ensures { result ≡ list_any (λ at. crosses at part) drops.now }
+{
+    drops.iter().any(|at| crosses(*at, part))
 }
 
 /// Whether a drop line cuts a part.
@@ -149,7 +158,7 @@ fn cut_part<L: Ledger>(
     ensures most { steps.new + 2 * part.start ≤ steps.old + 2 * part.end }
 {
     let mut pieces = Vec::from_slice(alloc, &[part])?;
-    if !drops.iter().any(|at| crosses(*at, part)) {
+    if !is_crossed(part, drops) {
         return Ok(pieces);
     }
     let segments = segments_between(alloc, drops, part.start, part.end, trace, steps)?;

@@ -1,4 +1,4 @@
-ghost use Rattle.std.specs.Prelude.{◌≡◌, ◌<◌, length};
+ghost use Rattle.std.specs.Prelude.{◌≡◌, ◌<◌, ◌≤◌, length};
 ghost use Rattle.std.specs.List.{list_any};
 ghost use Rattle.cds_events.specs.Runs.{lies_between, fused, run_length};
 
@@ -32,7 +32,9 @@ fn are_fused(gap: u32, pieces: &[Piece], a: Placed, b: Placed) -> bool
 /// How many peaks the first run of these has, of which there is at least one.
 pub(crate) fn run_length(gap: u32, pieces: &[Piece], peaks: &[Placed]) -> usize
     requires { 0 < length peaks.now }
-    ensures { result ≡ run_length (fused gap pieces.now) peaks.now }
+    ensures value { result ≡ run_length (fused gap pieces.now) peaks.now }
+    ensures some { 0 < result }
+    ensures within { result ≤ length peaks.now }
 {
     let mut count = 1;
     while count < peaks.len() && are_fused(gap, pieces, peaks[count - 1], peaks[count]) {

@@ -25,6 +25,8 @@ fn segment_between<L: Ledger>(trace: &Trace, from: u32, to: u32, steps: &mut Ste
     ensures to { result.to ≡ to }
     ensures counted { steps.new + from ≡ steps.old + to + 1 }
 {
+    let samples = trace.len();
+    prove!(to < samples);
     let mut top = from;
     let mut level = trace.at(from, steps);
     for i in from + 1..to + 1 {

@@ -20,6 +20,8 @@ fn first_least<L: Ledger>(trace: &Trace, from: u32, to: u32, steps: &mut Steps<L
     ensures high { result ≤ to }
     ensures counted { steps.new + from ≡ steps.old + to + 1 }
 {
+    let samples = trace.len();
+    prove!(to < samples);
     let mut valley = from;
     let mut depth = trace.at(from, steps);
     for i in from + 1..to + 1 {
@@ -35,13 +37,14 @@ fn first_least<L: Ledger>(trace: &Trace, from: u32, to: u32, steps: &mut Steps<L
 /// Where the part of a peak ends: at the valley before the next peak of its run, or where the peak itself ends. One
 /// step for each sample strictly between the two apexes.
 fn part_end<L: Ledger>(trace: &Trace, peak: Placed, later: &[Placed], steps: &mut Steps<L>) -> u32
+    requires falls { peak.apex < peak.end }
     requires ahead { IsAhead peak later.now }
     requires row { Row trace.now later.now }
     ensures value { result ≡ part_end trace.now peak later.now }
     ensures least { steps.old ≤ steps.new }
     ensures most { steps.new + peak.apex ≤ steps.old + next_apex peak.apex later.now }
 {
-    let Some(next) = later.first() else {
+    let [next, ..] = later else {
         return peak.end;
     };
     first_least(trace, peak.apex + 1, next.apex - 1, steps)

@@ -1,0 +1,11 @@
+use Rattle.std.proofs.Common.{ℕ, ◌<◌, ◌≤◌, take}
+use Rattle.std.specs.Prelude.{All}
+use Rattle.cds_events.specs.Segments.{IsOutside}
+use Rattle.cds_events.proofs.segments.next_line.Given as goal
+
+abbrev pub invariant-loop-at : goal.invariant-loop-at
+invariant-loop-at l = record {
+  behind : l.from < l.to;
+  before : l.to ≤ l.end;
+  clear : All (IsOutside l.from l.to) (take l.at-index l.drops);
+}
