@@ -13,3 +13,4 @@ mod rows;
 mod shapes;
 
 pub use row_part::{PeakList, RowPart};
+pub use rows::row;

@@ -1,4 +1,4 @@
-ghost use Rattle.std.specs.Prelude.{◌≡◌, ◌+◌, ◌-◌, ◌*◌, ℕ, ◌<◌, ◌≤◌, IfOk, IfSome, All, Option, length, pos, ◌<ℤ◌, unsigned_abs};
+ghost use Rattle.std.specs.Prelude.{◌≡◌, ◌+◌, ◌-◌, ◌*◌, ◌^◌, ℕ, ◌<◌, ◌≤◌, IfOk, IfSome, All, Option, length, pos, ◌<ℤ◌, unsigned_abs};
 ghost use Rattle.cds_area.specs.Area.{IsRatio, span, height_by_span};
 ghost use Rattle.cds_integrate.specs.Peaks.{boundary_height, is_valley_between, neighbour, IsValley, IsPeak, ArePeaks, component_of};
 ghost use Rattle.cds_integrate.specs.Row.{IsSound, StandsIn};

@@ -14,6 +14,7 @@ use crate::row_part::RowPart;
 use crate::shapes::shapes_of;
 use cds_base::{Cluster, Event, NoMemory, Steps};
 use cds_detect::{Raw, raw_peaks};
+use cds_events::arrange;
 use cds_names::name_peaks;
 use cds_rules::Method;
 use cds_trace::Trace;
@@ -65,4 +66,42 @@ fn found_of<L: Ledger>(
         add_found(alloc, &mut found, cluster, trace, method, manual, steps)?;
     }
     Ok(found)
+}
+
+/// The row of a trace under a method and the manual events of a row, which stand behind the method's events.
+///
+/// The raw peaks are arranged to clusters. The baseline of a cluster is straight between its nodes. The part behind a
+/// valley in the window of a skim event, where the valley is no node, is skimmed off by the tangent from the valley where
+/// that ends behind the part's apex: it is a rider, and its area is taken out of the nearest earlier part that is none.
+/// A part whose exact area or height isn't positive, whose reported area is below `min_area` or whose height is below
+/// `min_height` is rejected. The others are the row's peaks, numbered from 1 in the order of their ranges, each with its
+/// exact area and height, its crossings at half height and at one twentieth of it, and the heights for its peak to valley
+/// ratio. Components are numbered from 1; they name the peaks by the one naming that no wanted pair blocks.
+///
+/// `TooMany` comes exactly where there are more than 500 raw peaks. Want of memory is the one other answer. At least one
+/// step, since sample 0 is read first, and at most 32 for each sample of the trace. The rules are this project's own.
+pub fn row<L: Ledger>(
+    alloc: Global,
+    trace: &Trace,
+    method: &Method,
+    manual: &[Event],
+    steps: &mut Steps<L>,
+) -> Result<RowPart, NoMemory>
+    ensures value { IfOk result (IsRow trace.now method.now manual.now) }
+    ensures stand { IfOk result (λ row. All (StandsIn trace.now) (peaks_in row)) }
+    ensures least { steps.old + 1 ≤ steps.new }
+    ensures most { steps.new ≤ steps.old + 32 * length trace.now.samples }
+{
+    let _first = trace.at(0, steps);
+    let raw = match raw_peaks(alloc, trace, method, manual, steps)? {
+        Raw::TooMany(number) => return Ok(RowPart::of_too_many(number)),
+        Raw::List(raw) => raw,
+    };
+    let clusters = arrange(alloc, raw.as_slice(), trace, method, manual, steps)?;
+    let found = found_of(alloc, clusters.as_slice(), trace, method, manual, steps)?;
+    let windows = windows_of(alloc, method)?;
+    let times = apex_times(alloc, &found, trace)?;
+    let names = name_peaks(alloc, &windows, &times)?;
+    let peaks = peaks_of(alloc, &found, &names, trace, method, steps)?;
+    Ok(RowPart::of_peaks(peaks))
 }

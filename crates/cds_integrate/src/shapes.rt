@@ -2,9 +2,10 @@ ghost use Rattle.std.specs.Prelude.{◌≡◌, ◌+◌, ◌-◌, ◌*◌, ◌==�
 ghost use Rattle.std.specs.List.{list_any};
 ghost use Rattle.std.specs.Vec.{vec_len};
 ghost use Rattle.cds_detect.specs.Slopes.{is_in_window};
-ghost use Rattle.cds_baseline.specs.Cluster.{is_valley, Tiles};
-ghost use Rattle.cds_events.specs.Standing.{IsCluster};
-ghost use Rattle.cds_integrate.specs.Lines.{last_up_to, first_behind};
+ghost use Rattle.cds_baseline.specs.Cluster.{is_valley};
+ghost use Rattle.cds_events.specs.Standing.{IsPart, IsCluster};
+ghost use Rattle.cds_integrate.specs.Lines.{first_behind};
+ghost use Rattle.cds_integrate.specs.Standing.{IsShape, InRow};
 ghost use Rattle.cds_integrate.specs.Shapes.{covers, skims, is_covered, nodes_of, is_skimmed, shape_of, shapes_of};
 
 use crate::lines::{chord, first_behind, last_up_to};
@@ -123,12 +124,12 @@ fn shape_of<L: Ledger>(
     manual: &[Event],
     steps: &mut Steps<L>,
 ) -> Shape
-    requires rises { part.start ≤ part.apex }
+    requires part { IsPart trace.now part }
     requires order { part.start < part.end }
-    requires within { part.end < length trace.now.samples }
-    requires from { last_up_to nodes.now part.start < length trace.now.samples }
-    requires to { first_behind nodes.now part.start < length trace.now.samples }
+    requires clear { part.end ≤ first_behind nodes.now part.start }
+    requires within { first_behind nodes.now part.start < length trace.now.samples }
     ensures value { result ≡ shape_of trace.now (method.now.events ++ manual.now) nodes.now part }
+    ensures shape { IsShape trace.now result }
     ensures least { steps.old ≤ steps.new }
     ensures most { steps.new + 4 * part.start ≤ steps.old + 4 * part.end }
 {
@@ -191,6 +192,7 @@ pub(crate) fn shapes_of<L: Ledger>(
 ) -> Result<Vec<Shape>, NoMemory>
     requires { IsCluster trace.now 0 cluster.now }
     ensures value { IfOk result (λ v. v.items ≡ shapes_of trace.now (method.now.events ++ manual.now) cluster.now) }
+    ensures row { IfOk result (λ v. InRow trace.now cluster.now.start v.items cluster.now.end) }
     ensures least { steps.old ≤ steps.new }
     ensures most { steps.new + 6 * cluster.now.start ≤ steps.old + 6 * cluster.now.end }
 {

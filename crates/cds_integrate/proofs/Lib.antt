@@ -1,0 +1,5 @@
+pub mod NumberLaws
+pub mod RowLaws
+pub mod PartLaws
+pub mod NodeLaws
+pub mod ShapeLaws

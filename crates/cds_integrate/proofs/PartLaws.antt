@@ -1,0 +1,41 @@
+-- Where parts that tile a range lie, and which samples lie inside none of them.
+use Rattle.std.proofs.Common.{◌≡◌, ℕ, zero, suc, ◌+◌, ◌<◌, ◌≤◌, ◌⊎◌, inl, inr, Bool, true, false, List, [], ◌∷◌, ◌++◌, length, get_or, All, refl, sym, arith}
+use Rattle.std.specs.Prelude.{slice_index_or}
+use Rattle.std.specs.List.{fold}
+use Rattle.cds_base.specs.declared.cluster.Part.{Part}
+use Rattle.cds_base.specs.Tiles.{Tiles}
+
+-- a sample lies inside no part
+abbrev pub IsClear : List Part → ℕ → Type 0
+IsClear [] n = Unit {0}
+IsClear (part ∷ parts) n = ((n ≤ part.start) ⊎ (part.end ≤ n)) × IsClear parts n
+
+-- parts lie in order
+pub tiles-order : (start end : ℕ) (parts : List Part) → Tiles start parts end → start ≤ end
+tiles-order start end [] tiled = omega (arith, tiled)
+tiles-order start end (part ∷ parts) tiled = omega (arith, tiled.1, tiles-order part.end end parts tiled.2)
+
+-- a sample before all parts, and one behind them, is clear
+pub clear-low : (start end n : ℕ) (parts : List Part) → Tiles start parts end → n ≤ start → IsClear parts n
+clear-low start end n [] tiled low = tt
+clear-low start end n (part ∷ parts) tiled low =
+    (inl (omega (arith, tiled.0)), clear-low part.end end n parts tiled.2 (omega (arith, tiled.1)))
+
+pub clear-high : (start end n : ℕ) (parts : List Part) → Tiles start parts end → end ≤ n → IsClear parts n
+clear-high start end n [] tiled high = tt
+clear-high start end n (part ∷ parts) tiled high =
+    (inr (omega (arith, tiles-order part.end end parts tiled.2)), clear-high part.end end n parts tiled.2 high)
+
+-- where the last of some parts ends, or this sample where there is none
+abbrev pub reached : ℕ → List Part → ℕ
+reached start parts = fold (λ end part. part.end) start parts
+
+-- each part of a cluster lies within it
+pub part-within : (start end k : ℕ) (parts : List Part) (d : Part) → Tiles start parts end → k < length parts →
+    (start ≤ (slice_index_or parts k d).start) × ((slice_index_or parts k d).start < (slice_index_or parts k d).end) × ((slice_index_or parts k d).end ≤ end)
+part-within start end k [] d tiled below = absurd (omega arith)
+part-within start end zero (part ∷ parts) d tiled below =
+    (omega (arith, tiled.0), omega (arith, tiled.0, tiled.1), tiles-order part.end end parts tiled.2)
+part-within start end (suc k) (part ∷ parts) d tiled below =
+    let rest = part-within part.end end k parts d tiled.2 (omega arith) in
+    (omega (arith, tiled.1, rest.0), rest.1, rest.2)

@@ -1,0 +1,147 @@
+-- How the parts of a cluster stand on their lines.
+use Rattle.std.proofs.Common.{◌≡◌, ℕ, zero, suc, ◌+◌, ◌-◌, ◌*◌, ◌<◌, ◌≤◌, ◌⊎◌, inl, inr, Bool, true, false, not, ◌&&◌, List, [], ◌∷◌, ◌++◌, map, length, All, ℤ, pos, negsuc, ◌+ℤ◌, ◌-ℤ◌, ◌*ℤ◌, ◌≤ℤ◌, ◌<ℤ◌, refl, sym, ap, ◌∙◌, arith}
+use Rattle.std.specs.Prelude.{unsigned_abs, nat_lt, ◌==◌, if◌then◌else◌}
+use Rattle.std.specs.List.{list_any, fold, take_while}
+use Rattle.std.proofs.lemmas.Bool.{cases_Bool, and_parts}
+use Rattle.std.proofs.lemmas.Int.{ints}
+use Rattle.std.proofs.lemmas.Grind.{common_steps}
+use Rattle.std.proofs.Math.Nat.{mul-pos}
+use borrow.Author.Differences.{le-true}
+use Rattle.cds_base.specs.declared.event.Event.{Event}
+use Rattle.cds_base.specs.declared.cluster.Part.{Part}
+use Rattle.cds_base.specs.declared.cluster.Cluster.{Cluster}
+use Rattle.cds_base.specs.Tiles.{Tiles}
+use Rattle.cds_trace.specs.Signal.{Signal, IsTrace, sample_at}
+use Rattle.cds_area.specs.Area.{span, height_by_span, area_by_double_span}
+use Rattle.cds_area.proofs.AreaLaws.{area-whole, area-not_negative, abs-sample-le}
+use Rattle.cds_baseline.specs.Chord.{is_over}
+use Rattle.cds_baseline.specs.Tangent.{tangent_sample}
+use Rattle.cds_events.specs.Standing.{IsPart}
+use Rattle.cds_integrate.specs.declared.shapes.Shape.{Shape}
+use Rattle.cds_integrate.specs.Lines.{chord, line_over, last_up_to, first_behind}
+use Rattle.cds_integrate.specs.Shapes.{is_skimmed, is_rider, rider_shape, plain_shape, shape_of}
+use Rattle.cds_integrate.specs.Measures.{riders, area_end, twice_whole_area}
+use Rattle.cds_integrate.specs.Standing.{from_reach, IsShape, Reaches, InRow}
+use Rattle.cds_integrate.proofs.PartLaws.{IsClear, tiles-order}
+use Rattle.cds_integrate.proofs.NodeLaws.{IsNextNode, last_up_to-low}
+use Rattle.cds_integrate.proofs.RowLaws.{reach-on, reach-end}
+
+-- of numbers whose multiple by a number above 0 isn't negative none is negative
+times-sign : (z : ℤ) (s : ℕ) → 0 < s → pos 0 ≤ℤ (z *ℤ pos s) → pos 0 ≤ℤ z
+times-sign (pos n) s some h = omega (arith, ints)
+times-sign (negsuc n) s some h = absurd (omega (arith, ints, mul-pos {m = suc n} {n = s} (omega arith) some))
+
+-- a chord under which no sample lies has an area that isn't negative
+pub twice-not_negative : (signal : Signal) (v j : ℕ) → v < j → j < length signal.samples →
+    ((k : ℕ) → v ≤ k → k ≤ j → is_over signal v j k ≡ true) → pos 0 ≤ℤ twice_whole_area signal (chord signal v j)
+twice-not_negative signal v j order inside over =
+    let line = chord signal v j in
+    let high : (k : ℕ) → k ≤ j - v → pos 0 ≤ℤ height_by_span signal line (v + k) =
+    λ k below. omega (arith, ints, le-true _ _ (over (v + k) (omega arith) (omega arith))) in
+    let whole = area-whole signal line (omega arith) inside in
+    let sum = area-not_negative signal line v (j - v) high in
+    times-sign (twice_whole_area signal line) (span line) (omega arith) (rw whole at sum)
+
+-- a part of the baseline lies on its line
+pub plain-is : (signal : Signal) (nodes : List ℕ) (part : Part) → IsTrace signal → IsPart signal part → part.start < part.end →
+    part.end ≤ first_behind nodes part.start → first_behind nodes part.start < length signal.samples → IsShape signal (plain_shape signal nodes part)
+plain-is signal nodes part trace is order clear within =
+    let low : last_up_to nodes part.start ≤ part.start = last_up_to-low nodes part.start 0 (omega arith) in
+    record {
+      low = is.low;
+      high = is.high;
+      order = order;
+      reaches = omega arith;
+      from = low;
+      to = clear;
+      within = within;
+      levels = (
+        abs-sample-le signal 100000000 (last_up_to nodes part.start) trace (omega (arith, ints)) (omega (arith, low, order, clear, within)),
+        abs-sample-le signal 100000000 (first_behind nodes part.start) trace (omega (arith, ints)) within,
+      );
+      crest = is.crest;
+      whole = λ is. absurd (grind (arith, common_steps));
+      over = λ is. absurd (grind (arith, common_steps));
+    }
+
+-- and so does a rider
+pub rider-is : (signal : Signal) (part : Part) → IsTrace signal → part.end < length signal.samples → IsPart signal part → part.start < part.end →
+    part.start < tangent_sample signal part.start part.end → tangent_sample signal part.start part.end ≤ part.end → part.apex < tangent_sample signal part.start part.end →
+    ((k : ℕ) → part.start ≤ k → k ≤ tangent_sample signal part.start part.end → is_over signal part.start (tangent_sample signal part.start part.end) k ≡ true) →
+    IsShape signal (rider_shape signal part)
+rider-is signal part trace within is order beyond inside high over =
+    let j : ℕ = tangent_sample signal part.start part.end in
+    record {
+      low = is.low;
+      high = omega (arith, high);
+      order = beyond;
+      reaches = inside;
+      from = omega arith;
+      to = omega arith;
+      within = omega (arith, inside, within);
+      levels = (
+        abs-sample-le signal 100000000 part.start trace (omega (arith, ints)) (omega (arith, order, within)),
+        abs-sample-le signal 100000000 j trace (omega (arith, ints)) (omega (arith, inside, within)),
+      );
+      crest = λ rises falls. is.crest rises (omega (arith, falls, inside));
+      whole = λ _. (refl, refl);
+      over = λ _. twice-not_negative signal part.start j beyond (omega (arith, inside, within)) over;
+    }
+
+-- a rider doesn't begin at a node
+rider-apart : (signal : Signal) (events : List Event) (nodes : List ℕ) (part : Part) → is_rider signal events nodes part ≡ true →
+    list_any (λ other. other == part.start) nodes ≡ false
+rider-apart signal events nodes part is =
+    let skimmed : is_skimmed signal events nodes part ≡ true = (and_parts _ _ is).0 in
+    let free = (and_parts _ _ (and_parts _ _ skimmed).1).1 in
+    grind (arith, common_steps, free)
+
+-- riders ahead reach no farther than a node that doesn't lie before them
+reach-clear : (signal : Signal) (events : List Event) (nodes : List ℕ) (node reach start end : ℕ) (parts : List Part) → Tiles start parts end →
+    reach ≤ node → start ≤ node → IsClear parts node → list_any (λ other. other == node) nodes ≡ true →
+    from_reach reach (map (shape_of signal events nodes) parts) ≤ node
+reach-clear signal events nodes node reach start end [] tiled low at clear among = low
+reach-clear signal events nodes node reach start end (part ∷ parts) tiled low at clear among =
+    elim (cases_Bool (is_rider signal events nodes part)) [
+      | inl is ↦
+          let shape : shape_of signal events nodes part ≡ rider_shape signal part = rw is refl in
+          let beyond : part.end ≤ node = elim clear.0 [
+            | inl before ↦
+                let same : part.start ≡ node = omega (arith, tiled.0, before, at) in
+                let apart : list_any (λ other. other == part.start) nodes ≡ false = rider-apart signal events nodes part is in
+                absurd (grind (arith, common_steps, among, rw same at apart))
+            | inr behind ↦ behind
+          ] in
+          rw (shape, reach-on reach (rider_shape signal part) (map (shape_of signal events nodes) parts) refl)
+          (reach-clear signal events nodes node part.end part.end end parts tiled.2 beyond beyond clear.1 among)
+      | inr no ↦
+          let shape : shape_of signal events nodes part ≡ plain_shape signal nodes part = rw no refl in
+          rw (shape, reach-end reach (plain_shape signal nodes part) (map (shape_of signal events nodes) parts) refl) low
+    ]
+
+-- the parts of a cluster stand in a row, each on a line that reaches as far as its area goes
+pub row-of : (signal : Signal) (events : List Event) (nodes : List ℕ) (every : List Part) (end : ℕ) →
+    ((at : ℕ) → at < end → IsNextNode nodes every end at (first_behind nodes at)) →
+    (start : ℕ) (parts : List Part) → Tiles start parts end → ((n : ℕ) → IsClear every n → IsClear parts n) →
+    All (IsShape signal) (map (shape_of signal events nodes) parts) →
+    InRow signal start (map (shape_of signal events nodes) parts) end
+row-of signal events nodes every end next start [] tiled clear shapes = tiled
+row-of signal events nodes every end next start (part ∷ parts) tiled clear shapes =
+    let later : List Shape = map (shape_of signal events nodes) parts in
+    let inside = tiles-order part.end end parts tiled.2 in
+    let node = next part.start (omega (arith, tiled.0, tiled.1, inside)) in
+    let here = clear (first_behind nodes part.start) node.clear in
+    let rest = row-of signal events nodes every end next part.end parts tiled.2 (λ n h. (clear n h).1) (λ k d below. shapes (suc k) d (omega arith)) in
+    let first : IsShape signal (shape_of signal events nodes part) = shapes 0 (shape_of signal events nodes part) (omega arith) in
+    elim (cases_Bool (is_rider signal events nodes part)) [
+      | inl is ↦
+          let shape : shape_of signal events nodes part ≡ rider_shape signal part = rw is refl in
+          rw shape (tiled.0, rw shape at first, omega arith, rest)
+      | inr no ↦
+          let shape : shape_of signal events nodes part ≡ plain_shape signal nodes part = rw no refl in
+          let beyond : part.end ≤ first_behind nodes part.start = elim here.0 [
+            | inl before ↦ absurd (omega (arith, before, node.behind))
+            | inr behind ↦ behind
+          ] in
+          rw shape (tiled.0, rw shape at first, reach-clear signal events nodes (first_behind nodes part.start) part.end part.end end parts tiled.2 beyond beyond here.1 node.among, rest)
+    ]
