@@ -41,7 +41,7 @@ each-passing P f test (suc m) each =
     let rest = each-passing P f test m (λ i below. each i (omega arith)) in
     elim (cases_Bool (test m)) [
       | inl is ↦ rw (is, map-append f (passing test m) (m ∷ [])) (each-append P (map f (passing test m)) (f m ∷ []) rest (each m (omega arith), tt))
-      | inr no ↦ rw no rest
+      | inr other ↦ rw other rest
     ]
 
 -- the last point stands last, where it passes
@@ -55,8 +55,12 @@ last_up_to-low (n ∷ ns) at found low =
     last_up_to-low ns at (if nat_le n at then n else found)
     (elim (cases_Bool (nat_le n at)) [
       | inl is ↦ rw is (grind (arith, common_steps))
-      | inr no ↦ rw no low
+      | inr other ↦ rw other low
     ])
+
+or_from : (a b : Bool) → b ≡ true → (a || b) ≡ true
+or_from true b h = refl
+or_from false b h = h
 
 -- the first sample behind one is one of them, and lies behind it
 pub first-good : (P : ℕ → Type 0) (front : List ℕ) (last at : ℕ) → Each P front → P last → at < last →
@@ -70,9 +74,10 @@ first-good P (n ∷ ns) last at each p behind =
       | inl is ↦
           let same : (n == n) ≡ true = grind (arith, common_steps) in
           rw is (each.0, grind (arith, common_steps), rw same refl)
-      | inr no ↦
+      | inr other ↦
           let rest = first-good P ns last at each.1 p behind in
-          rw no (rest.0, rest.1, grind (arith, common_steps, rest.2))
+          let on : first_behind (n ∷ ns ++ last ∷ []) at ≡ first_behind (ns ++ last ∷ []) at = rw other refl in
+          rw on (rest.0, rest.1, or_from (n == first_behind (ns ++ last ∷ []) at) (list_any (λ node. node == first_behind (ns ++ last ∷ []) at) (ns ++ last ∷ [])) rest.2)
     ]
 
 -- valleys lie in order, and inside no part
@@ -85,7 +90,7 @@ valleys-clear start end (part ∷ parts) tiled =
     (λ n h. (omega (arith, h.0, tiled.1), h.1, (inr h.0, h.2))) rest in
     elim (cases_Bool (is_valley part.left)) [
       | inl is ↦ rw is ((omega (arith, tiled.0), omega (arith, tiled.0, tiled.1, order), (inl (omega arith), clear-low part.end end part.start parts tiled.2 (omega (arith, tiled.0, tiled.1)))), more)
-      | inr no ↦ rw no more
+      | inr other ↦ rw other more
     ]
 
 -- the same of the valleys that are points

@@ -1,6 +1,7 @@
 -- Parts in a row and their riders, one at a time.
-use Rattle.std.proofs.Common.{◌≡◌, ℕ, zero, suc, ◌+◌, ◌-◌, ◌*◌, ◌<◌, ◌≤◌, Bool, true, false, List, [], ◌∷◌, ◌++◌, length, drop, get_or, ℤ, pos, ◌+ℤ◌, inl, inr, refl, ap, sym, ◌∙◌, arith}
-use Rattle.std.specs.List.{fold, take_while}
+use Rattle.std.proofs.Common.{◌≡◌, ℕ, zero, suc, ◌+◌, ◌-◌, ◌*◌, ◌<◌, ◌≤◌, Bool, true, false, List, [], ◌∷◌, ◌++◌, length, drop, get_or, ℤ, pos, ◌+ℤ◌, inl, inr, take, refl, ap, sym, ◌∙◌, arith, drop-cons, length-drop}
+use Rattle.std.proofs.lemmas.List.{take_all}
+use Rattle.std.specs.List.{fold}
 use Rattle.std.proofs.lemmas.Bool.{cases_Bool}
 use Rattle.cds_trace.specs.Signal.{Signal}
 use Rattle.cds_integrate.specs.declared.shapes.Shape.{Shape}
@@ -34,3 +35,35 @@ area_end-low signal shape later end is row =
       | inl rider ↦ rw rider (omega arith)
       | inr other ↦ rw other (reach-low signal later shape.end shape.reach end is.reaches row)
     ]
+
+-- a shape to stand where a list has none
+abbrev pub no_shape : Shape
+no_shape = record { start = 0; apex = 0; end = 0; reach = 0; rider = false; line = record { from = 0; from_y = pos 0; to = 0; to_y = pos 0 } }
+
+-- the shapes from one on
+pub shapes-at : (shapes : List Shape) (k : ℕ) → k < length shapes → drop k shapes ≡ get_or shapes k no_shape ∷ drop (k + 1) shapes
+shapes-at shapes k below =
+    let e : k + 1 ≡ suc k = omega arith in
+    rw e (drop-cons shapes k no_shape below)
+
+-- a slice to the end
+pub rest-of : {X : Type 0} (xs : List X) (k : ℕ) → take (length xs - k) (drop k xs) ≡ drop k xs
+rest-of xs k = take_all (length xs - k) (drop k xs) (omega (arith, length-drop k xs))
+
+-- one more rider of a slice
+pub reach-step : (later : List Shape) (i reach target : ℕ) → i < length later → (get_or later i no_shape).rider ≡ true →
+    from_reach reach (drop i later) ≡ target → from_reach (get_or later i no_shape).reach (drop (i + 1) later) ≡ target
+reach-step later i reach target below is all =
+    sym (reach-on reach (get_or later i no_shape) (drop (i + 1) later) is) ∙ (ap (from_reach reach) (sym (shapes-at later i below)) ∙ all)
+
+-- what a row says of one of its parts
+pub row-at : (signal : Signal) (shapes : List Shape) (k start end : ℕ) → k < length shapes → InRow signal start (drop k shapes) end →
+    IsShape signal (get_or shapes k no_shape) × Reaches (get_or shapes k no_shape) (drop (k + 1) shapes) × InRow signal (get_or shapes k no_shape).reach (drop (k + 1) shapes) end
+row-at signal shapes k start end below row =
+    let here = rw (shapes-at shapes k below) at row in
+    (here.1, here.2, here.3)
+
+-- gross areas from one part on
+pub gross-at : (signal : Signal) (shapes : List Shape) (k : ℕ) → k < length shapes →
+    gross_areas signal (drop k shapes) ≡ gross_area signal (get_or shapes k no_shape) (drop (k + 1) shapes) ∷ gross_areas signal (drop (k + 1) shapes)
+gross-at signal shapes k below = ap (gross_areas signal) (shapes-at shapes k below)

@@ -1,7 +1,7 @@
 -- How the parts of a cluster stand on their lines.
 use Rattle.std.proofs.Common.{◌≡◌, ℕ, zero, suc, ◌+◌, ◌-◌, ◌*◌, ◌<◌, ◌≤◌, ◌⊎◌, inl, inr, Bool, true, false, not, ◌&&◌, List, [], ◌∷◌, ◌++◌, map, length, All, ℤ, pos, negsuc, ◌+ℤ◌, ◌-ℤ◌, ◌*ℤ◌, ◌≤ℤ◌, ◌<ℤ◌, refl, sym, ap, ◌∙◌, arith}
 use Rattle.std.specs.Prelude.{unsigned_abs, nat_lt, ◌==◌, if◌then◌else◌}
-use Rattle.std.specs.List.{list_any, fold, take_while}
+use Rattle.std.specs.List.{list_any}
 use Rattle.std.proofs.lemmas.Bool.{cases_Bool, and_parts}
 use Rattle.std.proofs.lemmas.Int.{ints}
 use Rattle.std.proofs.lemmas.Grind.{common_steps}
@@ -14,12 +14,13 @@ use Rattle.cds_base.specs.Tiles.{Tiles}
 use Rattle.cds_trace.specs.Signal.{Signal, IsTrace, sample_at}
 use Rattle.cds_area.specs.Area.{span, height_by_span, area_by_double_span}
 use Rattle.cds_area.proofs.AreaLaws.{area-whole, area-not_negative, abs-sample-le}
-use Rattle.cds_baseline.specs.Chord.{is_over}
+use Rattle.cds_baseline.specs.Chord.{chord_by_span, is_over}
+use Rattle.cds_baseline.specs.Cluster.{is_valley}
 use Rattle.cds_baseline.specs.Tangent.{tangent_sample}
 use Rattle.cds_events.specs.Standing.{IsPart}
 use Rattle.cds_integrate.specs.declared.shapes.Shape.{Shape}
 use Rattle.cds_integrate.specs.Lines.{chord, line_over, last_up_to, first_behind}
-use Rattle.cds_integrate.specs.Shapes.{is_skimmed, is_rider, rider_shape, plain_shape, shape_of}
+use Rattle.cds_integrate.specs.Shapes.{skims, is_skimmed, is_rider, rider_shape, plain_shape, shape_of}
 use Rattle.cds_integrate.specs.Measures.{riders, area_end, twice_whole_area}
 use Rattle.cds_integrate.specs.Standing.{from_reach, IsShape, Reaches, InRow}
 use Rattle.cds_integrate.proofs.PartLaws.{IsClear, tiles-order}
@@ -37,7 +38,7 @@ pub twice-not_negative : (signal : Signal) (v j : ℕ) → v < j → j < length 
 twice-not_negative signal v j order inside over =
     let line = chord signal v j in
     let high : (k : ℕ) → k ≤ j - v → pos 0 ≤ℤ height_by_span signal line (v + k) =
-    λ k below. omega (arith, ints, le-true _ _ (over (v + k) (omega arith) (omega arith))) in
+    λ k below. omega (arith, ints, le-true (chord_by_span signal v j (v + k)) (sample_at signal (v + k) *ℤ pos (j - v)) (over (v + k) (omega arith) (omega arith))) in
     let whole = area-whole signal line (omega arith) inside in
     let sum = area-not_negative signal line v (j - v) high in
     times-sign (twice_whole_area signal line) (span line) (omega arith) (rw whole at sum)
@@ -88,13 +89,20 @@ rider-is signal part trace within is order beyond inside high over =
       over = λ _. twice-not_negative signal part.start j beyond (omega (arith, inside, within)) over;
     }
 
+free-of : (b : Bool) → not b ≡ true → b ≡ false
+free-of true h = sym h
+free-of false h = refl
+
 -- a rider doesn't begin at a node
 rider-apart : (signal : Signal) (events : List Event) (nodes : List ℕ) (part : Part) → is_rider signal events nodes part ≡ true →
     list_any (λ other. other == part.start) nodes ≡ false
 rider-apart signal events nodes part is =
-    let skimmed : is_skimmed signal events nodes part ≡ true = (and_parts _ _ is).0 in
-    let free = (and_parts _ _ (and_parts _ _ skimmed).1).1 in
-    grind (arith, common_steps, free)
+    let skim : Bool = list_any (skims (part.start * signal.period)) events in
+    let node : Bool = list_any (λ other. other == part.start) nodes in
+    let skimmed = (and_parts (is_skimmed signal events nodes part) (nat_lt part.apex (tangent_sample signal part.start part.end)) is).0 in
+    let rest = (and_parts (is_valley part.left) (skim && not node) skimmed).1 in
+    let free = (and_parts skim (not node) rest).1 in
+    free-of node free
 
 -- riders ahead reach no farther than a node that doesn't lie before them
 reach-clear : (signal : Signal) (events : List Event) (nodes : List ℕ) (node reach start end : ℕ) (parts : List Part) → Tiles start parts end →
@@ -114,8 +122,8 @@ reach-clear signal events nodes node reach start end (part ∷ parts) tiled low 
           ] in
           rw (shape, reach-on reach (rider_shape signal part) (map (shape_of signal events nodes) parts) refl)
           (reach-clear signal events nodes node part.end part.end end parts tiled.2 beyond beyond clear.1 among)
-      | inr no ↦
-          let shape : shape_of signal events nodes part ≡ plain_shape signal nodes part = rw no refl in
+      | inr other ↦
+          let shape : shape_of signal events nodes part ≡ plain_shape signal nodes part = rw other refl in
           rw (shape, reach-end reach (plain_shape signal nodes part) (map (shape_of signal events nodes) parts) refl) low
     ]
 
@@ -137,8 +145,8 @@ row-of signal events nodes every end next start (part ∷ parts) tiled clear sha
       | inl is ↦
           let shape : shape_of signal events nodes part ≡ rider_shape signal part = rw is refl in
           rw shape (tiled.0, rw shape at first, omega arith, rest)
-      | inr no ↦
-          let shape : shape_of signal events nodes part ≡ plain_shape signal nodes part = rw no refl in
+      | inr other ↦
+          let shape : shape_of signal events nodes part ≡ plain_shape signal nodes part = rw other refl in
           let beyond : part.end ≤ first_behind nodes part.start = elim here.0 [
             | inl before ↦ absurd (omega (arith, before, node.behind))
             | inr behind ↦ behind

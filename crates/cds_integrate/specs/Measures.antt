@@ -1,7 +1,7 @@
 -- The exact areas and heights of parts, and which parts are rejected. This project's own rules. An area stands times twice
 -- the span of the part's line, a height times its span, so that both are whole numbers.
 use Rattle.std.specs.Prelude.{ℕ, ◌+◌, ◌-◌, ◌*◌, ◌/◌, ◌||◌, Bool, List, [], ◌∷◌, ℤ, pos, ◌+ℤ◌, ◌-ℤ◌, ◌*ℤ◌, nat_abs, int_le, int_lt, nat_lt, if◌then◌else◌}
-use Rattle.std.specs.List.{fold, take_while}
+use Rattle.std.specs.List.{fold}
 use Rattle.cds_base.specs.declared.peak.Line.{Line}
 use Rattle.cds_rules.specs.declared.method.Method.{Method}
 use Rattle.cds_trace.specs.Signal.{Signal, sum_between}
@@ -11,7 +11,8 @@ use Rattle.cds_integrate.specs.declared.measures.Measured.{Measured}
 
 -- the riders of a part: those directly behind it
 abbrev pub riders : List Shape → List Shape
-riders later = take_while (λ shape. shape.rider) later
+riders [] = []
+riders (shape ∷ later) = if shape.rider then shape ∷ riders later else []
 
 -- where the part of the last of these riders ends, or the part itself where it has none
 abbrev pub reach_over : Shape → List Shape → ℕ

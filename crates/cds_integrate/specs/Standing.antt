@@ -46,7 +46,7 @@ from_reach reach later = fold (λ reach rider. rider.reach) reach (riders later)
 -- a part whose measures are those of its line, within what is reported
 pub record IsMeasured (signal : Signal) (part : Measured) : Type 0 where
   pub shape : IsShape signal part.shape
-  pub area : unsigned_abs part.area ≤ 2 * 100000000 * (length signal.samples - 1) * (2 * span part.shape.line)
+  pub area : part.area ≤ℤ pos (2 * 100000000 * (length signal.samples - 1) * (2 * span part.shape.line))
   pub height : part.height ≡ height_by_span signal part.shape.line part.shape.apex
   pub small : unsigned_abs part.height < 2 ^ 60
 

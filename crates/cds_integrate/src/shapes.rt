@@ -1,12 +1,14 @@
-ghost use Rattle.std.specs.Prelude.{◌≡◌, ◌+◌, ◌-◌, ◌*◌, ◌==◌, ◌<◌, ◌≤◌, ◌++◌, All, IfOk, length, map};
+ghost use Rattle.std.specs.Prelude.{◌≡◌, ◌+◌, ◌-◌, ◌*◌, ◌==◌, ◌<◌, ◌≤◌, ◌++◌, ℕ, true, false, All, IfOk, IfSome, IfNone, length, map};
 ghost use Rattle.std.specs.List.{list_any};
 ghost use Rattle.std.specs.Vec.{vec_len};
 ghost use Rattle.cds_detect.specs.Slopes.{is_in_window};
 ghost use Rattle.cds_baseline.specs.Cluster.{is_valley};
+ghost use Rattle.cds_baseline.specs.Chord.{is_over};
+ghost use Rattle.cds_baseline.specs.Tangent.{tangent_sample};
 ghost use Rattle.cds_events.specs.Standing.{IsPart, IsCluster};
 ghost use Rattle.cds_integrate.specs.Lines.{first_behind};
 ghost use Rattle.cds_integrate.specs.Standing.{IsShape, InRow};
-ghost use Rattle.cds_integrate.specs.Shapes.{covers, skims, is_covered, nodes_of, is_skimmed, shape_of, shapes_of};
+ghost use Rattle.cds_integrate.specs.Shapes.{covers, skims, is_covered, is_skimmed, is_rider, rider_shape, plain_shape, shape_of, shapes_of};
 
 use crate::lines::{chord, first_behind, last_up_to};
 use cds_base::{Boundary, Cluster, Event, Line, NoMemory, Part, Steps};
@@ -115,6 +117,82 @@ fn is_skimmed(part: Part, nodes: &[u32], trace: &Trace, method: &Method, manual:
     is_valley(part) && (skimmed && !is_node(part.start, nodes))
 }
 
+/// The sample at which the tangent of a rider ends; None where the part is none. At most one step for each of its samples.
+fn rider_end<L: Ledger>(
+    part: Part,
+    nodes: &[u32],
+    trace: &Trace,
+    method: &Method,
+    manual: &[Event],
+    steps: &mut Steps<L>,
+) -> Option<u32>
+    requires order { part.start < part.end }
+    requires within { part.end < length trace.now.samples }
+    ensures rider { IfSome result (λ end. is_rider trace.now (method.now.events ++ manual.now) nodes.now part ≡ true) }
+    ensures plain { IfNone result (is_rider trace.now (method.now.events ++ manual.now) nodes.now part ≡ false) }
+    ensures end { IfSome result (λ end. end ≡ tangent_sample trace.now part.start part.end) }
+    ensures high { IfSome result (λ end. (part.apex < end) × (part.start < end) × (end ≤ part.end)) }
+    ensures clear { IfSome result (λ end. (k : ℕ) → part.start ≤ k → k ≤ end → is_over trace.now part.start end k ≡ true) }
+    ensures least { steps.old ≤ steps.new }
+    ensures most { steps.new + part.start ≤ steps.old + part.end + 1 }
+{
+    if !is_skimmed(part, nodes, trace, method, manual) {
+        return None;
+    }
+    let end = tangent(part.start, part.end, trace, steps);
+    if part.apex < end { Some(end) } else { None }
+}
+
+/// The shape of a rider whose tangent ends at this sample. Two steps.
+fn rider_shape<L: Ledger>(part: Part, end: u32, trace: &Trace, steps: &mut Steps<L>) -> Shape
+    requires part { IsPart trace.now part }
+    requires order { part.start < part.end }
+    requires within { part.end < length trace.now.samples }
+    requires end { end ≡ tangent_sample trace.now part.start part.end }
+    requires high { (part.apex < end) × (part.start < end) × (end ≤ part.end) }
+    requires clear { (k : ℕ) → part.start ≤ k → k ≤ end → is_over trace.now part.start end k ≡ true }
+    ensures value { result ≡ rider_shape trace.now part }
+    ensures shape { IsShape trace.now result }
+    ensures counted { steps.new ≡ steps.old + 2 }
+{
+    let samples = trace.len();
+    prove!(end < samples);
+    Shape {
+        start: part.start,
+        apex: part.apex,
+        end,
+        reach: part.end,
+        rider: true,
+        line: chord(part.start, end, trace, steps),
+    }
+}
+
+/// The shape of any other part, over a baseline with these nodes. Two steps.
+fn plain_shape<L: Ledger>(part: Part, nodes: &[u32], trace: &Trace, steps: &mut Steps<L>) -> Shape
+    requires part { IsPart trace.now part }
+    requires order { part.start < part.end }
+    requires clear { part.end ≤ first_behind nodes.now part.start }
+    requires within { first_behind nodes.now part.start < length trace.now.samples }
+    ensures value { result ≡ plain_shape trace.now nodes.now part }
+    ensures shape { IsShape trace.now result }
+    ensures counted { steps.new ≡ steps.old + 2 }
+{
+    let samples = trace.len();
+    prove!(part.end < samples);
+    let (from, to) = (
+        last_up_to(nodes, part.start),
+        first_behind(nodes, part.start),
+    );
+    Shape {
+        start: part.start,
+        apex: part.apex,
+        end: part.end,
+        reach: part.end,
+        rider: false,
+        line: chord(from, to, trace, steps),
+    }
+}
+
 /// The shape of a part over a baseline with these nodes. At most four steps for each of its samples but one.
 fn shape_of<L: Ledger>(
     part: Part,
@@ -133,32 +211,9 @@ fn shape_of<L: Ledger>(
     ensures least { steps.old ≤ steps.new }
     ensures most { steps.new + 4 * part.start ≤ steps.old + 4 * part.end }
 {
-    let mut end = part.start;
-    if is_skimmed(part, nodes, trace, method, manual) {
-        end = tangent(part.start, part.end, trace, steps);
-    }
-    if part.apex < end {
-        return Shape {
-            start: part.start,
-            apex: part.apex,
-            end,
-            reach: part.end,
-            rider: true,
-            line: chord(part.start, end, trace, steps),
-        };
-    }
-    Shape {
-        start: part.start,
-        apex: part.apex,
-        end: part.end,
-        reach: part.end,
-        rider: false,
-        line: chord(
-            last_up_to(nodes, part.start),
-            first_behind(nodes, part.start),
-            trace,
-            steps,
-        ),
+    match rider_end(part, nodes, trace, method, manual, steps) {
+        Some(end) => rider_shape(part, end, trace, steps),
+        None => plain_shape(part, nodes, trace, steps),
     }
 }
 
@@ -198,10 +253,11 @@ pub(crate) fn shapes_of<L: Ledger>(
 {
     let parts = cluster.parts.as_slice();
     let covered = covered_marks(alloc, parts, trace, method, manual)?;
-    let nodes = nodes(alloc, cluster, &covered, trace, steps)?;
+    let baseline = nodes(alloc, cluster, &covered, trace, steps)?;
+    let bends = baseline.as_slice();
     let mut shapes = Vec::with_capacity(alloc, parts.len())?;
     for part in parts {
-        shapes.push(shape_of(*part, nodes.as_slice(), trace, method, manual, steps))?;
+        shapes.push(shape_of(*part, bends, trace, method, manual, steps))?;
     }
     Ok(shapes)
 }

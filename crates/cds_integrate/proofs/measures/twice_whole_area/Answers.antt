@@ -1,11 +1,23 @@
-use Rattle.std.proofs.Common.{◌≡◌, ◌+◌, ◌*◌, ◌/◌, ◌<◌, pos, ◌*ℤ◌, ◌∙◌, ap, arith}
+use Rattle.std.proofs.Common.{◌≡◌, ◌+◌, ◌*◌, ◌/◌, ◌<◌, ◌^◌, pos, ◌*ℤ◌, ◌∙◌, ap, arith, rules}
 use Rattle.std.specs.Prelude.{unsigned_abs}
-use Rattle.std.proofs.lemmas.Int.{to_z_pos}
+use Rattle.std.proofs.lemmas.Int.{to_z_pos, to_z-of_z}
+use Rattle.std.proofs.Math.Nat.{div-le_self}
 use mir.Syntax.{w128}
+use mir.Val.{SFits, to_z, of_z}
 use Rattle.cds_area.specs.Area.{span}
 use Rattle.cds_integrate.specs.Measures.{twice_whole_area}
 use Rattle.cds_integrate.proofs.NumberLaws.{exact-div, size-of}
 use Rattle.cds_integrate.proofs.measures.twice_whole_area.Goals as goal
 
 pub returns : goal.returns
-returns c = let a = c.unsigned_abs.ensures in let b = c.requires.whole in let e = c.from.ensures in let f = c.span.ensures in ?
+returns c =
+    let signal = c.args.trace.now in
+    let line = c.args.rider.line in
+    let fits : SFits w128 c.args.gross = search rules in
+    let whole = rw c.requires.whole at (simp to_z-of_z at c.unsigned_abs.ensures.value) in
+    let width : c.from.result ≡ span line = c.from.ensures ∙ c.span.ensures.value in
+    let some : 0 < span line = omega (arith, c.span.ensures.value, c.span.ensures.some) in
+    let exact : c.unsigned_abs.result / c.from.result ≡ unsigned_abs (twice_whole_area signal line) =
+    rw (whole, width) (exact-div (twice_whole_area signal line) (span line) some) in
+    let low : c.unsigned_abs.result / c.from.result < 2 ^ 127 = search rules in
+    to_z_pos w128 (c.unsigned_abs.result / c.from.result) low ∙ (ap pos exact ∙ size-of (twice_whole_area signal line) c.requires.over)

@@ -6,7 +6,7 @@ use Rattle.cds_integrate.proofs.shapes.shapes_of.Given as goal
 
 abbrev pub invariant-loop-part : goal.invariant-loop-part
 invariant-loop-part g l = record {
-  items : l.shapes.items ≡ map (shape_of l.trace (l.method.events ++ l.manual) l.nodes) (take l.part-index l.parts);
+  items : l.shapes.items ≡ map (shape_of l.trace (l.method.events ++ l.manual) l.bends) (take l.part-index l.parts);
   shapes : All (IsShape l.trace) l.shapes.items;
   least : l.fn.steps ≤ l.steps;
   counted : l.steps + 4 * l.cluster.start ≤ l.initial.steps + 4 * reached l.cluster.start (take l.part-index l.parts);
