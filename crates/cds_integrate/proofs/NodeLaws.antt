@@ -77,7 +77,9 @@ first-good P (n ∷ ns) last at each p behind =
       | inr other ↦
           let rest = first-good P ns last at each.1 p behind in
           let on : first_behind (n ∷ ns ++ last ∷ []) at ≡ first_behind (ns ++ last ∷ []) at = rw other refl in
-          rw on (rest.0, rest.1, or_from (n == first_behind (ns ++ last ∷ []) at) (list_any (λ node. node == first_behind (ns ++ last ∷ []) at) (ns ++ last ∷ [])) rest.2)
+          let tail : List ℕ = ns ++ last ∷ [] in
+          subst (λ x. P x × (at < x) × (list_any (λ node. node == x) (n ∷ tail) ≡ true)) (sym on)
+          (rest.0, rest.1, or_from (n == first_behind tail at) (list_any (λ node. node == first_behind tail at) tail) rest.2)
     ]
 
 -- valleys lie in order, and inside no part

@@ -1,5 +1,5 @@
 -- Where parts that tile a range lie, and which samples lie inside none of them.
-use Rattle.std.proofs.Common.{◌≡◌, ℕ, zero, suc, ◌+◌, ◌<◌, ◌≤◌, ◌⊎◌, inl, inr, Bool, true, false, List, [], ◌∷◌, ◌++◌, length, get_or, All, refl, sym, arith}
+use Rattle.std.proofs.Common.{◌≡◌, ℕ, zero, suc, ◌+◌, ◌<◌, ◌≤◌, ◌⊎◌, inl, inr, Bool, true, false, List, [], ◌∷◌, ◌++◌, length, take, get_or, All, refl, sym, arith}
 use Rattle.std.specs.Prelude.{slice_index_or}
 use Rattle.std.specs.List.{fold}
 use Rattle.cds_base.specs.declared.cluster.Part.{Part}
@@ -39,3 +39,22 @@ part-within start end zero (part ∷ parts) d tiled below =
 part-within start end (suc k) (part ∷ parts) d tiled below =
     let rest = part-within part.end end k parts d tiled.2 (omega arith) in
     (omega (arith, tiled.1, rest.0), rest.1, rest.2)
+
+-- each part begins where those before it end
+pub tiles-at : (start end k : ℕ) (parts : List Part) (d : Part) → Tiles start parts end → k < length parts →
+    ((slice_index_or parts k d).start ≡ reached start (take k parts)) × (reached start (take (k + 1) parts) ≡ (slice_index_or parts k d).end)
+tiles-at start end k [] d tiled below = absurd (omega arith)
+tiles-at start end zero (part ∷ parts) d tiled below = (tiled.0, refl)
+tiles-at start end (suc k) (part ∷ parts) d tiled below =
+    let e : suc k + 1 ≡ suc (k + 1) = omega arith in
+    rw e (tiles-at part.end end k parts d tiled.2 (omega arith))
+
+-- all parts end with the range
+pub tiles-end : (start end : ℕ) (parts : List Part) → Tiles start parts end → reached start parts ≡ end
+tiles-end start end [] tiled = tiled
+tiles-end start end (part ∷ parts) tiled = tiles-end part.end end parts tiled.2
+
+-- each part takes at least one sample
+pub tiles-count : (start end : ℕ) (parts : List Part) → Tiles start parts end → start + length parts ≤ end
+tiles-count start end [] tiled = omega (arith, tiled)
+tiles-count start end (part ∷ parts) tiled = omega (arith, tiled.1, tiles-count part.end end parts tiled.2)

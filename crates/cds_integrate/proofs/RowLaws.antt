@@ -1,5 +1,5 @@
 -- Parts in a row and their riders, one at a time.
-use Rattle.std.proofs.Common.{◌≡◌, ℕ, zero, suc, ◌+◌, ◌-◌, ◌*◌, ◌<◌, ◌≤◌, Bool, true, false, List, [], ◌∷◌, ◌++◌, length, drop, get_or, ℤ, pos, ◌+ℤ◌, inl, inr, take, refl, ap, sym, ◌∙◌, arith, drop-cons, length-drop}
+use Rattle.std.proofs.Common.{◌≡◌, ℕ, zero, suc, ◌+◌, ◌-◌, ◌*◌, ◌<◌, ◌≤◌, Bool, true, false, List, All, [], ◌∷◌, ◌++◌, length, drop, get_or, ℤ, pos, ◌+ℤ◌, inl, inr, take, refl, ap, sym, ◌∙◌, arith, drop-cons, length-drop}
 use Rattle.std.proofs.lemmas.List.{take_all}
 use Rattle.std.specs.List.{fold}
 use Rattle.std.proofs.lemmas.Bool.{cases_Bool}
@@ -67,3 +67,8 @@ row-at signal shapes k start end below row =
 pub gross-at : (signal : Signal) (shapes : List Shape) (k : ℕ) → k < length shapes →
     gross_areas signal (drop k shapes) ≡ gross_area signal (get_or shapes k no_shape) (drop (k + 1) shapes) ∷ gross_areas signal (drop (k + 1) shapes)
 gross-at signal shapes k below = ap (gross_areas signal) (shapes-at shapes k below)
+
+-- what holds of one entry holds of a list of it alone
+pub one-all : {X : Type 0} (P : X → Type 0) (x : X) → P x → All P (x ∷ [])
+one-all P x p zero d below = p
+one-all P x p (suc k) d below = absurd (omega arith)

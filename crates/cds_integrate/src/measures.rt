@@ -52,6 +52,7 @@ fn gross_area<L: Ledger>(shape: Shape, later: &[Shape], trace: &Trace, steps: &m
     requires reaches { Reaches shape later.now }
     requires forward { shape.start ≤ area_end shape later.now }
     ensures value { result ≡ gross_area trace.now shape later.now }
+    ensures small { unsigned_abs result < 2 ^ 66 }
     ensures counted { steps.new ≡ steps.old + 4 }
 {
     let end = area_end(shape, later);
@@ -67,6 +68,7 @@ fn gross_areas<L: Ledger>(
 ) -> Result<Vec<i128>, NoMemory>
     requires { (start : ℕ) × (end : ℕ) × InRow trace.now start shapes.now end }
     ensures value { IfOk result (λ v. v.items ≡ gross_areas trace.now shapes.now) }
+    ensures small { IfOk result (λ v. All (λ a. unsigned_abs a < 2 ^ 66) v.items) }
     ensures len { IfOk result (λ v. vec_len v ≡ length shapes.now) }
     ensures least { steps.old ≤ steps.new }
     ensures most { steps.new ≤ steps.old + 4 * length shapes.now }
@@ -83,6 +85,7 @@ fn twice_whole_area(rider: Shape, gross: i128, trace: &Trace) -> i128
     requires shape { IsShape trace.now rider }
     requires whole { gross ≡ twice_whole_area trace.now rider.line *ℤ pos (span rider.line) }
     requires over { pos 0 ≤ℤ twice_whole_area trace.now rider.line }
+    requires small { unsigned_abs gross < 2 ^ 66 }
     ensures { result ≡ twice_whole_area trace.now rider.line }
 {
     (gross.unsigned_abs() / u128::from(span(rider.line))) as i128
@@ -92,6 +95,7 @@ fn twice_whole_area(rider: Shape, gross: i128, trace: &Trace) -> i128
 fn taken(later: &[Shape], gross: &[i128], trace: &Trace) -> i128
     requires row { (start : ℕ) × (end : ℕ) × InRow trace.now start later.now end }
     requires gross { gross.now ≡ gross_areas trace.now later.now }
+    requires small { All (λ a. unsigned_abs a < 2 ^ 66) gross.now }
     requires few { length later.now < 2 ^ 32 }
     ensures value { result ≡ twice_areas trace.now (riders later.now) }
     ensures least { pos 0 ≤ℤ result }
@@ -120,6 +124,8 @@ fn measure<L: Ledger>(
     requires row { (start : ℕ) × (end : ℕ) × InRow trace.now start later.now end }
     requires gross { gross ≡ gross_area trace.now shape later.now }
     requires later_gross { later_gross.now ≡ gross_areas trace.now later.now }
+    requires gross_small { unsigned_abs gross < 2 ^ 66 }
+    requires later_small { All (λ a. unsigned_abs a < 2 ^ 66) later_gross.now }
     requires few { length later.now < 2 ^ 32 }
     ensures value { result ≡ measure trace.now shape later.now }
     ensures counted { steps.new ≡ steps.old + 1 }

@@ -19,5 +19,6 @@ returns c =
     let some : 0 < span line = omega (arith, c.span.ensures.value, c.span.ensures.some) in
     let exact : c.unsigned_abs.result / c.from.result ≡ unsigned_abs (twice_whole_area signal line) =
     rw (whole, width) (exact-div (twice_whole_area signal line) (span line) some) in
-    let low : c.unsigned_abs.result / c.from.result < 2 ^ 127 = search rules in
+    let size = simp to_z-of_z at c.unsigned_abs.ensures.value in
+    let low : c.unsigned_abs.result / c.from.result < 2 ^ 127 = omega (arith, div-le_self c.unsigned_abs.result c.from.result, size, c.requires.small) in
     to_z_pos w128 (c.unsigned_abs.result / c.from.result) low ∙ (ap pos exact ∙ size-of (twice_whole_area signal line) c.requires.over)
