@@ -3,6 +3,7 @@ use Rattle.std.proofs.Common.{◌≡◌, ℕ, zero, suc, ◌+◌, ◌<◌, ◌�
 use Rattle.std.specs.Prelude.{slice_index_or}
 use Rattle.std.specs.List.{fold}
 use Rattle.cds_base.specs.declared.cluster.Part.{Part}
+use Rattle.cds_base.specs.declared.cluster.Boundary.TheVariants.{Start}
 use Rattle.cds_base.specs.Tiles.{Tiles}
 
 -- a sample lies inside no part
@@ -58,3 +59,14 @@ tiles-end start end (part ∷ parts) tiled = tiles-end part.end end parts tiled.
 pub tiles-count : (start end : ℕ) (parts : List Part) → Tiles start parts end → start + length parts ≤ end
 tiles-count start end [] tiled = omega (arith, tiled)
 tiles-count start end (part ∷ parts) tiled = omega (arith, tiled.1, tiles-count part.end end parts tiled.2)
+
+-- a clear sample lies on one side of each part
+pub clear-at : (n k : ℕ) (parts : List Part) (d : Part) → IsClear parts n → k < length parts →
+    (n ≤ (slice_index_or parts k d).start) ⊎ ((slice_index_or parts k d).end ≤ n)
+clear-at n k [] d clear below = absurd (omega arith)
+clear-at n zero (part ∷ parts) d clear below = clear.0
+clear-at n (suc k) (part ∷ parts) d clear below = clear-at n k parts d clear.1 (omega arith)
+
+-- a part to stand where a list has none
+abbrev pub no_part : Part
+no_part = record { start = 0; apex = 0; end = 0; left = Start }

@@ -1,6 +1,7 @@
 -- How the parts of a cluster stand on their lines.
 use Rattle.std.proofs.Common.{◌≡◌, ℕ, zero, suc, ◌+◌, ◌-◌, ◌*◌, ◌<◌, ◌≤◌, ◌⊎◌, inl, inr, Bool, true, false, not, ◌&&◌, List, [], ◌∷◌, ◌++◌, map, length, All, ℤ, pos, negsuc, ◌+ℤ◌, ◌-ℤ◌, ◌*ℤ◌, ◌≤ℤ◌, ◌<ℤ◌, refl, sym, ap, ◌∙◌, arith}
-use Rattle.std.specs.Prelude.{unsigned_abs, nat_lt, ◌==◌, if◌then◌else◌}
+use Rattle.std.proofs.lemmas.List.{length-map}
+use Rattle.std.specs.Prelude.{slice_index_or, unsigned_abs, nat_lt, ◌==◌, if◌then◌else◌}
 use Rattle.std.specs.List.{list_any}
 use Rattle.std.proofs.lemmas.Bool.{cases_Bool, and_parts}
 use Rattle.std.proofs.lemmas.Int.{ints}
@@ -17,14 +18,14 @@ use Rattle.cds_area.proofs.AreaLaws.{area-whole, area-not_negative, abs-sample-l
 use Rattle.cds_baseline.specs.Chord.{chord_by_span, is_over}
 use Rattle.cds_baseline.specs.Cluster.{is_valley}
 use Rattle.cds_baseline.specs.Tangent.{tangent_sample}
-use Rattle.cds_events.specs.Standing.{IsPart}
+use Rattle.cds_events.specs.Standing.{IsPart, IsCluster}
 use Rattle.cds_integrate.specs.declared.shapes.Shape.{Shape}
 use Rattle.cds_integrate.specs.Lines.{chord, line_over, last_up_to, first_behind}
-use Rattle.cds_integrate.specs.Shapes.{skims, is_skimmed, is_rider, rider_shape, plain_shape, shape_of}
+use Rattle.cds_integrate.specs.Shapes.{skims, is_covered, nodes_of, is_skimmed, is_rider, rider_shape, plain_shape, shape_of}
 use Rattle.cds_integrate.specs.Measures.{riders, area_end, twice_whole_area}
-use Rattle.cds_integrate.specs.Standing.{from_reach, IsShape, Reaches, InRow}
-use Rattle.cds_integrate.proofs.PartLaws.{IsClear, tiles-order}
-use Rattle.cds_integrate.proofs.NodeLaws.{IsNextNode, last_up_to-low}
+use Rattle.cds_integrate.specs.Standing.{from_reach, IsOver, IsShape, Reaches, InRow}
+use Rattle.cds_integrate.proofs.PartLaws.{IsClear, tiles-order, part-within, clear-at}
+use Rattle.cds_integrate.proofs.NodeLaws.{IsNextNode, last_up_to-low, next-node}
 use Rattle.cds_integrate.proofs.RowLaws.{reach-on, reach-end}
 
 -- of numbers whose multiple by a number above 0 isn't negative none is negative
@@ -153,3 +154,26 @@ row-of signal events nodes every end next start (part ∷ parts) tiled clear sha
           ] in
           rw shape (tiled.0, rw shape at first, reach-clear signal events nodes (first_behind nodes part.start) part.end part.end end parts tiled.2 beyond beyond here.1 node.among, rest)
     ]
+
+-- the node behind each sample of a cluster
+pub cluster-next : (signal : Signal) (events : List Event) (cluster : Cluster) → IsCluster signal 0 cluster → (at : ℕ) → at < cluster.end →
+    IsNextNode (nodes_of signal events cluster) cluster.parts cluster.end at (first_behind (nodes_of signal events cluster) at)
+cluster-next signal events cluster is at before =
+    next-node signal cluster (map (is_covered signal events) cluster.parts) at is.some is.tiled (length-map (is_covered signal events) cluster.parts) before
+
+-- each part of a cluster stands over its baseline
+pub cluster-over : (signal : Signal) (events : List Event) (cluster : Cluster) → IsCluster signal 0 cluster →
+    All (IsOver signal (nodes_of signal events cluster)) cluster.parts
+cluster-over signal events cluster is k d below =
+    let part : Part = slice_index_or cluster.parts k d in
+    let here = part-within cluster.start cluster.end k cluster.parts d is.tiled below in
+    let node = cluster-next signal events cluster is part.start (omega (arith, here.1, here.2)) in
+    record {
+      part_is = is.parts k d below;
+      order = here.1;
+      clear = elim (clear-at (first_behind (nodes_of signal events cluster) part.start) k cluster.parts d node.clear below) [
+        | inl before ↦ absurd (omega (arith, before, node.behind))
+        | inr behind ↦ behind
+      ];
+      within = omega (arith, node.within, is.ends);
+    }

@@ -4,7 +4,9 @@ use Rattle.std.specs.List.{sum_by, fold}
 use Rattle.cds_rules.specs.declared.method.Method.{Method}
 use Rattle.cds_trace.specs.Signal.{Signal}
 use Rattle.cds_area.specs.Area.{span, height_by_span}
-use Rattle.cds_events.specs.Standing.{IsCrest}
+use Rattle.cds_base.specs.declared.cluster.Part.{Part}
+use Rattle.cds_events.specs.Standing.{IsCrest, IsPart}
+use Rattle.cds_integrate.specs.Lines.{first_behind}
 use Rattle.cds_integrate.specs.declared.shapes.Shape.{Shape}
 use Rattle.cds_integrate.specs.declared.measures.Measured.{Measured}
 use Rattle.cds_integrate.specs.declared.found.Found.{Found}
@@ -55,3 +57,10 @@ pub record IsFound (signal : Signal) (method : Method) (found : Found) : Type 0 
   pub part : IsMeasured signal found.part
   pub before : IfSome found.before (IsMeasured signal)
   pub kept : is_rejected signal method found.part ≡ false
+
+-- a part over a baseline with these nodes, none of which lies inside it
+pub record IsOver (signal : Signal) (nodes : List ℕ) (part : Part) : Type 0 where
+  pub part_is : IsPart signal part
+  pub order : part.start < part.end
+  pub clear : part.end ≤ first_behind nodes part.start
+  pub within : first_behind nodes part.start < length signal.samples

@@ -3,11 +3,12 @@ ghost use Rattle.std.specs.List.{list_any};
 ghost use Rattle.std.specs.Vec.{vec_len};
 ghost use Rattle.cds_detect.specs.Slopes.{is_in_window};
 ghost use Rattle.cds_baseline.specs.Cluster.{is_valley};
+ghost use Rattle.cds_base.specs.Tiles.{Tiles};
 ghost use Rattle.cds_baseline.specs.Chord.{is_over};
 ghost use Rattle.cds_baseline.specs.Tangent.{tangent_sample};
 ghost use Rattle.cds_events.specs.Standing.{IsPart, IsCluster};
 ghost use Rattle.cds_integrate.specs.Lines.{first_behind};
-ghost use Rattle.cds_integrate.specs.Standing.{IsShape, InRow};
+ghost use Rattle.cds_integrate.specs.Standing.{IsOver, IsShape, InRow};
 ghost use Rattle.cds_integrate.specs.Shapes.{covers, skims, is_covered, is_skimmed, is_rider, rider_shape, plain_shape, shape_of, shapes_of};
 
 use crate::lines::{chord, first_behind, last_up_to};
@@ -236,6 +237,29 @@ fn covered_marks(
     Ok(marks)
 }
 
+/// Parts in a row over a baseline with these nodes. At most four steps for each of their samples but one.
+fn shapes_over<L: Ledger>(
+    alloc: Global,
+    parts: &[Part],
+    nodes: &[u32],
+    trace: &Trace,
+    method: &Method,
+    manual: &[Event],
+    steps: &mut Steps<L>,
+) -> Result<Vec<Shape>, NoMemory>
+    requires { All (IsOver trace.now nodes.now) parts.now }
+    ensures value { IfOk result (λ v. v.items ≡ map (shape_of trace.now (method.now.events ++ manual.now) nodes.now) parts.now) }
+    ensures shapes { IfOk result (λ v. All (IsShape trace.now) v.items) }
+    ensures least { steps.old ≤ steps.new }
+    ensures most { (start end : ℕ) → Tiles start parts.now end → steps.new + 4 * start ≤ steps.old + 4 * end }
+{
+    let mut shapes = Vec::with_capacity(alloc, parts.len())?;
+    for part in parts {
+        shapes.push(shape_of(*part, nodes, trace, method, manual, steps))?;
+    }
+    Ok(shapes)
+}
+
 /// The parts of a cluster with the lines below them, in their order. At most six steps for each of its samples but one.
 pub(crate) fn shapes_of<L: Ledger>(
     alloc: Global,
@@ -254,10 +278,13 @@ pub(crate) fn shapes_of<L: Ledger>(
     let parts = cluster.parts.as_slice();
     let covered = covered_marks(alloc, parts, trace, method, manual)?;
     let baseline = nodes(alloc, cluster, &covered, trace, steps)?;
-    let bends = baseline.as_slice();
-    let mut shapes = Vec::with_capacity(alloc, parts.len())?;
-    for part in parts {
-        shapes.push(shape_of(*part, bends, trace, method, manual, steps))?;
-    }
-    Ok(shapes)
+    shapes_over(
+        alloc,
+        parts,
+        baseline.as_slice(),
+        trace,
+        method,
+        manual,
+        steps,
+    )
 }

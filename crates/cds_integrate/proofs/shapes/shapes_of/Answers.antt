@@ -1,5 +1,7 @@
-use Rattle.std.proofs.Common.{◌≡◌, ◌+◌, ◌<◌, ◌≤◌, arith}
-use Rattle.cds_integrate.proofs.PartLaws.{part-within, tiles-count}
+use Rattle.std.proofs.Common.{◌≡◌, ℕ, ◌+◌, ◌*◌, ◌<◌, ◌≤◌, ◌++◌, length, sym, ◌∙◌, ap, arith}
+use Rattle.cds_integrate.specs.Shapes.{is_covered, nodes_of, shapes_of}
+use Rattle.cds_integrate.proofs.PartLaws.{part-within, tiles-count, tiles-order}
+use Rattle.cds_integrate.proofs.ShapeLaws.{cluster-next, cluster-over, row-of}
 use Rattle.cds_integrate.proofs.shapes.shapes_of.Goals as goal
 
 pub covered_marks-requires : goal.covered_marks-requires
@@ -9,14 +11,8 @@ covered_marks-requires g c = rw c.as_slice-parts.ensures (λ k d below.
 
 pub returns-in_err-covered-clause-most : goal.returns-in_err-covered-clause-most
 returns-in_err-covered-clause-most g c =
-    let count = tiles-count c.args.cluster.now.start c.args.cluster.now.end c.args.cluster.now.parts c.requires.tiled in
-    omega (arith, count)
+    omega (arith, tiles-order c.args.cluster.now.start c.args.cluster.now.end c.args.cluster.now.parts c.requires.tiled)
 
-pub shape_of-requires-in-loop-part-clause-clear : goal.shape_of-requires-in-loop-part-clause-clear
-shape_of-requires-in-loop-part-clause-clear g c = ?
-
-pub loop-part-preserved : goal.loop-part-preserved
-loop-part-preserved g c = ?
-
-pub returns-clause-row : goal.returns-clause-row
-returns-clause-row g c = ?
+pub returns-in_err-baseline-clause-most : goal.returns-in_err-baseline-clause-most
+returns-in_err-baseline-clause-most g c =
+    omega (arith, tiles-count c.args.cluster.now.start c.args.cluster.now.end c.args.cluster.now.parts c.requires.tiled, c.requires.some, c.nodes.ensures.most)
