@@ -159,7 +159,7 @@ row-of signal events nodes every end next start (part ∷ parts) tiled clear sha
 pub cluster-next : (signal : Signal) (events : List Event) (cluster : Cluster) → IsCluster signal 0 cluster → (at : ℕ) → at < cluster.end →
     IsNextNode (nodes_of signal events cluster) cluster.parts cluster.end at (first_behind (nodes_of signal events cluster) at)
 cluster-next signal events cluster is at before =
-    next-node signal cluster (map (is_covered signal events) cluster.parts) at is.some is.tiled (length-map (is_covered signal events) cluster.parts) before
+    next-node signal cluster (map (is_covered signal events) cluster.parts) at is.some is.tiled (length-map cluster.parts (is_covered signal events)) before
 
 -- each part of a cluster stands over its baseline
 pub cluster-over : (signal : Signal) (events : List Event) (cluster : Cluster) → IsCluster signal 0 cluster →

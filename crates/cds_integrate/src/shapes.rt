@@ -278,13 +278,7 @@ pub(crate) fn shapes_of<L: Ledger>(
     let parts = cluster.parts.as_slice();
     let covered = covered_marks(alloc, parts, trace, method, manual)?;
     let baseline = nodes(alloc, cluster, &covered, trace, steps)?;
-    shapes_over(
-        alloc,
-        parts,
-        baseline.as_slice(),
-        trace,
-        method,
-        manual,
-        steps,
-    )
+    let bends = baseline.as_slice();
+    let shapes = shapes_over(alloc, parts, bends, trace, method, manual, steps)?;
+    Ok(shapes)
 }

@@ -1,4 +1,5 @@
-use Rattle.std.proofs.Common.{◌≡◌, ℕ, ◌+◌, ◌*◌, ◌<◌, ◌≤◌, ◌++◌, length, sym, ◌∙◌, ap, arith}
+use Rattle.std.proofs.Common.{◌≡◌, ℕ, ◌+◌, ◌*◌, ◌<◌, ◌≤◌, ◌++◌, List, length, ◌∙◌, arith}
+use Rattle.cds_base.specs.declared.event.Event.{Event}
 use Rattle.cds_integrate.specs.Shapes.{is_covered, nodes_of, shapes_of}
 use Rattle.cds_integrate.proofs.PartLaws.{part-within, tiles-count, tiles-order}
 use Rattle.cds_integrate.proofs.ShapeLaws.{cluster-next, cluster-over, row-of}
@@ -16,3 +17,42 @@ returns-in_err-covered-clause-most g c =
 pub returns-in_err-baseline-clause-most : goal.returns-in_err-baseline-clause-most
 returns-in_err-baseline-clause-most g c =
     omega (arith, tiles-count c.args.cluster.now.start c.args.cluster.now.end c.args.cluster.now.parts c.requires.tiled, c.requires.some, c.nodes.ensures.most)
+
+pub shapes_over-shapes-requires : goal.shapes_over-shapes-requires
+shapes_over-shapes-requires g c =
+    let signal = c.args.trace.now in
+    let cluster = c.args.cluster.now in
+    let events : List Event = c.args.method.now.events ++ c.args.manual.now in
+    let marks = c.deref.ensures.value ∙ rw c.as_slice-parts.ensures at c.in_ok-covered.ensures.marks in
+    let bends : c.as_slice-bends.result.now ≡ nodes_of signal events cluster = rw marks at (c.as_slice-bends.ensures ∙ c.in_ok-baseline.ensures.nodes) in
+    rw (c.as_slice-parts.ensures, bends) (cluster-over signal events cluster c.requires)
+
+pub returns-clause-value : goal.returns-clause-value
+returns-clause-value g c =
+    let signal = c.args.trace.now in
+    let cluster = c.args.cluster.now in
+    let events : List Event = c.args.method.now.events ++ c.args.manual.now in
+    let marks = c.deref.ensures.value ∙ rw c.as_slice-parts.ensures at c.in_ok-covered.ensures.marks in
+    let bends : c.as_slice-bends.result.now ≡ nodes_of signal events cluster = rw marks at (c.as_slice-bends.ensures ∙ c.in_ok-baseline.ensures.nodes) in
+    rw (c.as_slice-parts.ensures, bends) at c.in_ok-shapes.ensures.value
+
+pub returns-clause-row : goal.returns-clause-row
+returns-clause-row g c =
+    let signal = c.args.trace.now in
+    let cluster = c.args.cluster.now in
+    let events : List Event = c.args.method.now.events ++ c.args.manual.now in
+    let marks = c.deref.ensures.value ∙ rw c.as_slice-parts.ensures at c.in_ok-covered.ensures.marks in
+    let bends : c.as_slice-bends.result.now ≡ nodes_of signal events cluster = rw marks at (c.as_slice-bends.ensures ∙ c.in_ok-baseline.ensures.nodes) in
+    let value = rw (c.as_slice-parts.ensures, bends) at c.in_ok-shapes.ensures.value in
+    rw value (row-of signal events (nodes_of signal events cluster) cluster.parts cluster.end (cluster-next signal events cluster c.requires)
+    cluster.start cluster.parts c.requires.tiled (λ n h. h) (rw value at c.in_ok-shapes.ensures.shapes))
+
+pub returns-clause-most : goal.returns-clause-most
+returns-clause-most g c =
+    let cluster = c.args.cluster.now in
+    omega (arith, tiles-count cluster.start cluster.end cluster.parts c.requires.tiled, c.requires.some, c.nodes.ensures.most, c.shapes_over-shapes.ensures.most cluster.start cluster.end (rw c.as_slice-parts.ensures c.requires.tiled))
+
+pub returns-in_err-shapes-clause-most : goal.returns-in_err-shapes-clause-most
+returns-in_err-shapes-clause-most g c =
+    let cluster = c.args.cluster.now in
+    omega (arith, tiles-count cluster.start cluster.end cluster.parts c.requires.tiled, c.requires.some, c.nodes.ensures.most, c.shapes_over-shapes.ensures.most cluster.start cluster.end (rw c.as_slice-parts.ensures c.requires.tiled))
