@@ -1,5 +1,6 @@
 use Rattle.std.proofs.Common.{◌≡◌, ℕ, ◌+◌, ◌*◌, ◌<◌, ◌≤◌, ◌++◌, List, All, map, ap, subst, length, ◌∙◌, arith}
 use Rattle.cds_base.specs.declared.event.Event.{Event}
+use Rattle.cds_baseline.specs.Cluster.{cluster_nodes}
 use Rattle.cds_integrate.specs.Shapes.{is_covered, nodes_of, shape_of, shapes_of}
 use Rattle.cds_integrate.specs.Standing.{IsShape}
 use Rattle.cds_integrate.proofs.PartLaws.{part-within, tiles-count, tiles-order}
@@ -24,8 +25,8 @@ shapes_over-requires g c =
     let signal = c.args.trace.now in
     let cluster = c.args.cluster.now in
     let events : List Event = c.args.method.now.events ++ c.args.manual.now in
-    let marks = c.deref.ensures.value ∙ rw c.as_slice-parts.ensures at c.in_ok-covered.ensures.marks in
-    let bends : c.as_slice-bends.result.now ≡ nodes_of signal events cluster = rw marks at (c.as_slice-bends.ensures ∙ c.in_ok-baseline.ensures.nodes) in
+    let marks = c.deref.ensures.value ∙ (c.in_ok-covered.ensures.marks ∙ ap (map (is_covered signal events)) c.as_slice-parts.ensures) in
+    let bends : c.as_slice-bends.result.now ≡ nodes_of signal events cluster = c.as_slice-bends.ensures ∙ (c.in_ok-baseline.ensures.nodes ∙ ap (cluster_nodes signal cluster) marks) in
     rw (c.as_slice-parts.ensures, bends) (cluster-over signal events cluster c.requires)
 
 pub returns-clause-value : goal.returns-clause-value
@@ -33,8 +34,8 @@ returns-clause-value g c =
     let signal = c.args.trace.now in
     let cluster = c.args.cluster.now in
     let events : List Event = c.args.method.now.events ++ c.args.manual.now in
-    let marks = c.deref.ensures.value ∙ rw c.as_slice-parts.ensures at c.in_ok-covered.ensures.marks in
-    let bends : c.as_slice-bends.result.now ≡ nodes_of signal events cluster = rw marks at (c.as_slice-bends.ensures ∙ c.in_ok-baseline.ensures.nodes) in
+    let marks = c.deref.ensures.value ∙ (c.in_ok-covered.ensures.marks ∙ ap (map (is_covered signal events)) c.as_slice-parts.ensures) in
+    let bends : c.as_slice-bends.result.now ≡ nodes_of signal events cluster = c.as_slice-bends.ensures ∙ (c.in_ok-baseline.ensures.nodes ∙ ap (cluster_nodes signal cluster) marks) in
     c.in_ok-shapes.ensures.value ∙ (ap (λ nodes. map (shape_of signal events nodes) c.as_slice-parts.result.now) bends ∙ ap (map (shape_of signal events (nodes_of signal events cluster))) c.as_slice-parts.ensures)
 
 pub returns-clause-row : goal.returns-clause-row
@@ -42,8 +43,8 @@ returns-clause-row g c =
     let signal = c.args.trace.now in
     let cluster = c.args.cluster.now in
     let events : List Event = c.args.method.now.events ++ c.args.manual.now in
-    let marks = c.deref.ensures.value ∙ rw c.as_slice-parts.ensures at c.in_ok-covered.ensures.marks in
-    let bends : c.as_slice-bends.result.now ≡ nodes_of signal events cluster = rw marks at (c.as_slice-bends.ensures ∙ c.in_ok-baseline.ensures.nodes) in
+    let marks = c.deref.ensures.value ∙ (c.in_ok-covered.ensures.marks ∙ ap (map (is_covered signal events)) c.as_slice-parts.ensures) in
+    let bends : c.as_slice-bends.result.now ≡ nodes_of signal events cluster = c.as_slice-bends.ensures ∙ (c.in_ok-baseline.ensures.nodes ∙ ap (cluster_nodes signal cluster) marks) in
     let value : c.in_ok-shapes.shapes.items ≡ map (shape_of signal events (nodes_of signal events cluster)) cluster.parts = c.in_ok-shapes.ensures.value ∙ (ap (λ nodes. map (shape_of signal events nodes) c.as_slice-parts.result.now) bends ∙ ap (map (shape_of signal events (nodes_of signal events cluster))) c.as_slice-parts.ensures) in
     rw value (row-of signal events (nodes_of signal events cluster) cluster.parts cluster.end (cluster-next signal events cluster c.requires)
     cluster.start cluster.parts c.requires.tiled (λ n h. h) (subst (λ xs. All (IsShape signal) xs) value c.in_ok-shapes.ensures.shapes))
