@@ -1,5 +1,5 @@
 -- What is told over several calls.
-use Rattle.std.proofs.Common.{◌≡◌, ℕ, List, [], ◌++◌, Option, Some, None, refl, ap, sym, append_assoc}
+use Rattle.std.proofs.Common.{◌≡◌, ℕ, List, ◌++◌, Option, Some, None, refl, ap, sym, append_assoc}
 use Rattle.cds_base.specs.Told.{then_more, more_before}
 
 -- more behind, and again more behind

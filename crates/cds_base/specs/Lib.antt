@@ -4,4 +4,7 @@ pub mod Told
 pub mod Source
 pub mod Sink
 pub mod NameLaws
+pub mod Clock
+pub mod Door
+pub mod MemDoor
 pub mod Tiles

@@ -1,14 +1,18 @@
 //! The words that every crate of the data system shares: names, texts and byte strings, the plain types of
 //! integration, the counter of steps, and the traits of the outside with their objects in memory.
 //!
-//! Begin at [`Name`] for what a thing is called, at [`Source`] and [`Sink`] for how bytes come and go, and at
-//! [`Steps`] for how reads of samples are counted.
+//! Begin at [`Name`] for what a thing is called, at [`Source`] and [`Sink`] for how bytes come and go, at [`Door`]
+//! for how connections do, at [`Clock`] for the time, and at [`Steps`] for how reads of samples are counted.
 #![tactic(auto)]
 
 mod bytes;
+mod clock;
 mod cluster;
+mod door;
 mod event;
 mod failed;
+mod fixed_clock;
+mod mem_door;
 mod mem_sink;
 mod mem_source;
 mod name;
@@ -20,9 +24,13 @@ mod steps;
 mod text;
 
 pub use bytes::Bytes;
+pub use clock::{Clock, MOMENT_LIMIT};
 pub use cluster::{Boundary, Cluster, Part, PartList};
+pub use door::Door;
 pub use event::{Event, EventList};
 pub use failed::Failed;
+pub use fixed_clock::FixedClock;
+pub use mem_door::MemDoor;
 pub use mem_sink::MemSink;
 pub use mem_source::MemSource;
 pub use name::{MOST_NAME_BYTES, Name};

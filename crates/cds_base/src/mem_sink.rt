@@ -1,4 +1,7 @@
-ghost use Rattle.std.specs.Prelude.{◌≡◌, ◌<◌, [], IfOk, Some};
+ghost use Rattle.std.specs.Prelude.{◌≡◌, ◌+◌, ◌-◌, ◌^◌, ◌<◌, ◌≤◌, ◌==◌, [], length, take, min, true, IfOk, IsErr, OnErr, Some};
+ghost use Rattle.std.specs.List.{list_any};
+ghost use Rattle.cds_base.specs.Faults.{Rose};
+ghost use Rattle.cds_base.specs.Told.{then_more};
 
 use crate::failed::Failed;
 use crate::sink::Sink;
@@ -56,7 +59,19 @@ impl Sink for MemSink {
 
     ghost faults = { λ s. s.faults };
 
-    fn write(&mut self, piece: &[u8]) -> Result<usize, Failed> {
+    /// As the trait says. It fails at the calls that are to fail, and else only where memory is wanting.
+    fn write(&mut self, piece: &[u8]) -> Result<usize, Failed>
+        ensures within { IfOk result (λ n. n ≤ length piece.now) }
+        ensures some { IfOk result (λ n. 0 < length piece.now → 0 < n) }
+        ensures writes { IfOk result (λ n. Some self.new.written ≡ then_more (Some self.old.written) (take n piece.now)) }
+        ensures counts { self.old.faults ≤ self.new.faults }
+        ensures failed { OnErr result (Rose self.old.faults self.new.faults) }
+        ensures kept { IfOk result (λ _. self.new.faults ≡ self.old.faults) }
+        ensures written_stays { OnErr result (self.new.written ≡ self.old.written) }
+        ensures calls { self.new.calls ≡ min (self.old.calls + 1) (2 ^ 64 - 1) }
+        ensures fails { list_any (λ call. call == self.new.calls) self.old.failing ≡ true → IsErr result }
+        ensures failing_stays { self.new.failing ≡ self.old.failing }
+    {
         self.calls = self.calls.saturating_add(1);
         let count = piece.len().min(self.piece);
         if self.failing.contains(&self.calls)

@@ -1,4 +1,8 @@
-ghost use Rattle.std.specs.Prelude.{◌≡◌, ◌<◌, [], length, Some, IfOk};
+ghost use Rattle.std.specs.Prelude.{◌≡◌, ◌+◌, ◌-◌, ◌^◌, ◌<◌, ◌≤◌, ◌==◌, [], length, take, min, Some, IfOk, OnErr};
+ghost use Rattle.std.specs.List.{list_any};
+ghost use Rattle.std.specs.Result.{is_err};
+ghost use Rattle.cds_base.specs.Faults.{Rose};
+ghost use Rattle.cds_base.specs.Told.{then_more, more_before};
 
 use crate::failed::Failed;
 use crate::source::{Source, give};
@@ -67,9 +71,26 @@ impl Source for MemSource {
 
     ghost faults = { λ s. s.faults };
 
-    /// Fails exactly at the calls that are to fail.
     #[tactic(auto, using(crate::proofs::Reading::take_read, crate::proofs::Reading::left_read))]
-    fn read(&mut self, buf: &mut [u8]) -> Result<usize, Failed> {
+    /// As the trait says. It fails exactly at the calls that are to fail.
+    fn read(&mut self, buf: &mut [u8]) -> Result<usize, Failed>
+        requires { 0 < length buf.old }
+        ensures within { IfOk result (λ n. n ≤ length buf.old) }
+        ensures gives { IfOk result (λ n. Some self.new.given ≡ then_more (Some self.old.given) (take n buf.new)) }
+        ensures takes { IfOk result (λ n. Some self.old.left ≡ more_before (take n buf.new) (Some self.new.left)) }
+        ensures ended { IfOk result (λ n. n ≡ 0 → self.new.left ≡ []) }
+        ensures nears { IfOk result (λ n. length self.new.left + n ≡ length self.old.left) }
+        ensures bounded { length self.old.left < 2 ^ 64 }
+        ensures counts { self.old.faults ≤ self.new.faults }
+        ensures failed { OnErr result (Rose self.old.faults self.new.faults) }
+        ensures kept { IfOk result (λ _. self.new.faults ≡ self.old.faults) }
+        ensures given_stays { OnErr result (self.new.given ≡ self.old.given) }
+        ensures left_stays { OnErr result (self.new.left ≡ self.old.left) }
+        ensures bound_stays { OnErr result (length self.new.left ≡ length self.old.left) }
+        ensures calls { self.new.calls ≡ min (self.old.calls + 1) (2 ^ 64 - 1) }
+        ensures fails { is_err result ≡ list_any (λ call. call == self.new.calls) self.old.failing }
+        ensures failing_stays { self.new.failing ≡ self.old.failing }
+    {
         self.calls = self.calls.saturating_add(1);
         if self.failing.contains(&self.calls) {
             self.faults = self.faults.saturating_add(1);

@@ -21,5 +21,6 @@ pub trait Sink {
         ensures writes { IfOk result (λ n. written self.new ≡ then_more (written self.old) (take n piece.now)) }
         ensures counts { faults self.old ≤ faults self.new }
         ensures failed { OnErr result (Rose (faults self.old) (faults self.new)) }
+        ensures kept { IfOk result (λ _. faults self.new ≡ faults self.old) }
         ensures written_stays { OnErr result (written self.new ≡ written self.old) };
 }

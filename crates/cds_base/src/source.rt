@@ -20,7 +20,8 @@ pub trait Source {
     ghost faults: { Self → ℕ };
 
     /// Puts the next bytes at the front of `buf` and answers how many; 0 is the end of input, and comes
-    /// exactly where nothing is left. `Failed` comes only where the count of faults rose in this call; all
+    /// exactly where nothing is left. `Failed` comes only where the count of faults rose in this call, and the count
+    /// is as before where the call succeeds; after `Failed` all
     /// else that the source tells is then as before.
     fn read(&mut self, buf: &mut [u8]) -> Result<usize, Failed>
         requires { 0 < length buf.old }
@@ -32,6 +33,7 @@ pub trait Source {
         ensures bounded { bound self.old < 2 ^ 64 }
         ensures counts { faults self.old ≤ faults self.new }
         ensures failed { OnErr result (Rose (faults self.old) (faults self.new)) }
+        ensures kept { IfOk result (λ _. faults self.new ≡ faults self.old) }
         ensures given_stays { OnErr result (given self.new ≡ given self.old) }
         ensures left_stays { OnErr result (left self.new ≡ left self.old) }
         ensures bound_stays { OnErr result (bound self.new ≡ bound self.old) };

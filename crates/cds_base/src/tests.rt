@@ -1,3 +1,5 @@
+ghost use Rattle.std.specs.Prelude.{◌≡◌, IfSome};
+
 use super::*;
 use std::alloc::Global;
 use std::test::Fail;
@@ -67,5 +69,60 @@ fn a_sink_keeps_what_it_took(rt: HostRuntime) -> Result<(), Fail> {
     assert_eq!(rt; sink.write(b"de"), Ok(2));
     assert_eq!(rt; sink.written(), b"abcde".as_slice());
     assert_eq!(rt; NoFailSink.write(b"abcde"), Ok(5));
+    Ok(())
+}
+
+#[test]
+fn a_clock_answers_its_moments_and_then_the_last_one(rt: HostRuntime) -> Result<(), Fail> {
+    let mut clock = FixedClock::new(rt.alloc(), &[784_111_777, 5], 253_402_300_799)?;
+    for moment in [784_111_777, 5, 253_402_300_799, 253_402_300_799] {
+        assert_eq!(rt; clock.now(), moment);
+    }
+    Ok(())
+}
+
+// A connection that sends these bytes, given and taken whole.
+fn add_connection(alloc: Global, door: &mut MemDoor, bytes: &[u8]) -> Result<(), Fail> {
+    let source = MemSource::new(alloc, bytes, 9, &[])?;
+    let sink = MemSink::new(alloc, 9, &[])?;
+    door.add(source, sink)?;
+    Ok(())
+}
+
+// What is read of the next connection in one call of room for three bytes, written back to it before it is closed.
+fn echo<D: Door>(door: &mut D, room: &mut [u8; 3]) -> Result<usize, Failed>
+    ensures pairs { D.pairs door.new ≡ D.pairs door.old }
+    ensures port { IfSome (D.told door.old) (λ told. IfSome (D.told door.new) (λ now. now.port ≡ told.port)) }
+{
+    let (mut source, mut sink) = door.next()?;
+    let read = source.read(room);
+    let written = sink.write(room);
+    door.close(source, sink);
+    written?;
+    read
+}
+
+#[test]
+fn a_door_gives_its_connections_in_order_and_keeps_the_closed_ones(
+    rt: HostRuntime,
+) -> Result<(), Fail> {
+    let mut door = MemDoor::new(rt.alloc(), &[1, 4])?;
+    add_connection(rt.alloc(), &mut door, b"first")?;
+    add_connection(rt.alloc(), &mut door, b"2")?;
+    assert_eq!(rt; door.open(80), Err(Failed));
+    assert_eq!(rt; door.port(), None);
+    assert_eq!(rt; door.open(8080), Ok(()));
+    assert_eq!(rt; door.port(), Some(8080));
+    let rows = [Ok(3), Err(Failed), Ok(1), Err(Failed)];
+    let mut room = [0; 3];
+    for row in rows {
+        assert_eq!(rt; echo(&mut door, &mut room), row);
+    }
+    let rows: [(&[u8], &[u8]); 2] = [(b"st", b"fir"), (b"", b"2ir")];
+    assert_eq!(rt; door.closed().len(), 2);
+    for ((source, sink), (left, written)) in door.closed().iter().zip(rows) {
+        assert_eq!(rt; source.left(), left);
+        assert_eq!(rt; sink.written(), written);
+    }
     Ok(())
 }

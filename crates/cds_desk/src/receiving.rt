@@ -28,13 +28,15 @@ impl From<AllocError> for ReceiveError {
     }
 }
 
-/// The bytes of the source, up to its end or until they are more than a command may read. `Failed` comes only
-/// where the source's count of faults rose.
+/// The bytes of the source, up to its end or until they are more than a command may read. `Failed` comes
+/// exactly where a read failed: the source's count of faults then rose, and is else as before.
 #[tactic(auto, using(cds_base::proofs::ToldLaws::more_before_twice, crate::proofs::ReceivingLaws::received_all, crate::proofs::ReceivingLaws::received_too_many))]
 pub(crate) fn receive<S: Source>(alloc: Global, source: &mut S) -> Result<Vec<u8>, ReceiveError>
     ensures all { IfOk result (λ bytes. IfSome (S.left source.old) (λ all. AreReceived all bytes.items)) }
     ensures ended { IfOk result (λ bytes. vec_len bytes ≤ MOST_SOURCE_BYTES → IfSome (S.left source.new) (λ rest. rest ≡ [])) }
     ensures counts { S.faults source.old ≤ S.faults source.new }
+    ensures kept { IfOk result (λ _. S.faults source.new ≡ S.faults source.old) }
+    ensures kept_without_memory { IsErrOf result ReceiveError.NoMemory → S.faults source.new ≡ S.faults source.old }
     ensures failed { IsErrOf result ReceiveError.Failed → Rose (S.faults source.old) (S.faults source.new) }
 {
     let mut piece = zeros(alloc, PIECE_BYTES)?;

@@ -61,6 +61,8 @@ pub fn run<S: Source, W: Sink, L: Ledger>(
     ensures refused { result ≡ 1 → OfAnswer (map string_bytes words.now) (S.left source.old) (λ answer.
         (answer.status ≡ 1) × Sent (W.written sink.old) (W.written sink.new) (W.faults sink.old) (W.faults sink.new) answer.text) }
 
+    // A read that failed ends the command with 3, whatever the bytes are.
+    ensures failed_read { result ≢ 3 → S.faults source.new ≡ S.faults source.old }
     ensures source_failed { result ≡ 3 → Rose (S.faults source.old) (S.faults source.new) }
     ensures source_failed_writes_nothing { result ≡ 3 → sink.new ≡ sink.old }
 
@@ -105,6 +107,7 @@ fn peaks<S: Source, W: Sink, L: Ledger>(
     ensures read_to_the_end { result ≡ DONE → IfSome (S.left source.new) (λ rest. rest ≡ []) }
     ensures refused { result ≡ REFUSED → OfBytes options (S.left source.old) (λ answer.
         (answer.status ≡ REFUSED) × Sent (W.written sink.old) (W.written sink.new) (W.faults sink.old) (W.faults sink.new) answer.text) }
+    ensures failed_read { result ≢ SOURCE_FAILED → S.faults source.new ≡ S.faults source.old }
     ensures source_failed { result ≡ SOURCE_FAILED → Rose (S.faults source.old) (S.faults source.new) }
     ensures source_failed_writes_nothing { result ≡ SOURCE_FAILED → sink.new ≡ sink.old }
     ensures sink_failed { result ≡ SINK_FAILED → Rose (W.faults sink.old) (W.faults sink.new) }

@@ -1,5 +1,5 @@
 -- The clusters of runs of fused peaks stand in order, and have few parts.
-use Rattle.std.proofs.Common.{◌≡◌, ℕ, suc, ◌+◌, ◌-◌, ◌*◌, ◌<◌, ◌≤◌, Bool, true, false, List, [], ◌∷◌, ◌++◌, length, get_or, map, take, drop, fold, refl, arith, ap, sym, ◌∙◌, inl, inr}
+use Rattle.std.proofs.Common.{◌≡◌, ℕ, ◌+◌, ◌-◌, ◌*◌, ◌<◌, ◌≤◌, Bool, cond, List, [], ◌∷◌, ◌++◌, length, map, take, drop, refl, arith, ◌∙◌, inl, inr}
 use Rattle.std.specs.Prelude.{All}
 use Rattle.std.specs.List.{sum_by, AllPairs}
 use Rattle.std.proofs.lemmas.Bool.{cases_Bool}
@@ -10,6 +10,7 @@ use Rattle.cds_base.specs.declared.cluster.Boundary.TheVariants.{Start}
 use Rattle.cds_base.specs.declared.cluster.Cluster.{Cluster}
 use Rattle.cds_base.specs.declared.cluster.Part.{Part}
 use Rattle.cds_base.specs.declared.event.Event.{Event}
+use Rattle.cds_base.specs.declared.event.Event.TheVariants.{Inhibit, Valley, Drop, Baseline, Slope, Skim}
 use Rattle.cds_base.specs.declared.peak.RawPeak.{RawPeak}
 use Rattle.cds_trace.specs.Signal.{Signal}
 use Rattle.cds_events.specs.declared.pieces.Piece.{Piece}
@@ -19,9 +20,9 @@ use Rattle.cds_base.specs.Tiles.{Tiles}
 use Rattle.cds_events.specs.Parts.{parts_from}
 use Rattle.cds_events.specs.Pieces.{pieces_of}
 use Rattle.cds_events.specs.Placed.{placed_peaks}
-use Rattle.cds_events.specs.Drops.{drop_samples, cut_all}
+use Rattle.cds_events.specs.Drops.{drop_samples, is_drop, drop_count, cut_all}
 use Rattle.cds_events.specs.Arrangement.{start_of, end_of, cluster_of, clusters_of}
-use Rattle.cds_events.specs.Row.{IsPlaced, IsAhead, Row, RunsFrom, IsInside, next_apex, reached}
+use Rattle.cds_events.specs.Row.{IsPlaced, Row, RunsFrom, IsInside, reached}
 use Rattle.cds_events.specs.Standing.{IsPart, IsCluster, RawFrom, ClustersFrom, BeginsAtStart, part_count}
 use Rattle.cds_events.proofs.ListLaws.{pairs-head, pairs-tail}
 use Rattle.cds_events.proofs.RunLaws.{runs_of-cons, runs_of-split}
@@ -149,7 +150,20 @@ clusters-few signal at drops (run ∷ runs) stand =
       clusters-few signal (end_of run) drops runs stand.3,
     )
 
-pub clusters_of-few : (signal : Signal) (gap : ℕ) (events : List Event) (raw : List RawPeak) → 2 ≤ length signal.samples → RawFrom signal 0 raw → part_count (clusters_of signal gap events raw) ≤ length raw + length (drop_samples signal.period events)
+one-drop_samples : (period : ℕ) (event : Event) (events : List Event) → length (drop_samples period (event ∷ events)) ≡ cond (is_drop event) 1 0 + length (drop_samples period events)
+one-drop_samples period (Inhibit from to) events = omega arith
+one-drop_samples period (Valley from to) events = omega arith
+one-drop_samples period (Drop at) events = omega arith
+one-drop_samples period (Baseline from to) events = omega arith
+one-drop_samples period (Slope at on off) events = omega arith
+one-drop_samples period (Skim from to) events = omega arith
+
+length-drop_samples : (period : ℕ) (events : List Event) → length (drop_samples period events) ≡ drop_count events
+length-drop_samples period [] = refl
+length-drop_samples period (event ∷ events) =
+    omega (arith, one-drop_samples period event events, length-drop_samples period events, sum_by-cons (λ (e : Event). cond (is_drop e) 1 0) event events)
+
+pub clusters_of-few : (signal : Signal) (gap : ℕ) (events : List Event) (raw : List RawPeak) → 2 ≤ length signal.samples → RawFrom signal 0 raw → part_count (clusters_of signal gap events raw) ≤ length raw + drop_count events
 clusters_of-few signal gap events raw enough stand =
     let pieces : List Piece = pieces_of signal events in
     let peaks : List Placed = placed_peaks pieces raw in
@@ -158,6 +172,7 @@ clusters_of-few signal gap events raw enough stand =
       clusters-few signal 0 (drop_samples signal.period events) (runs_of (fused gap pieces) peaks) (runs-from signal gap events raw enough stand),
       runs_of-count (fused gap pieces) peaks,
       length-placed_peaks pieces raw,
+      length-drop_samples signal.period events,
     )
 
 -- the next run

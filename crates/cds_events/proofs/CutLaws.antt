@@ -1,12 +1,12 @@
 -- What drop lines leave of parts.
-use Rattle.std.proofs.Common.{◌≡◌, ℕ, suc, ◌+◌, ◌-◌, ◌*◌, ◌<◌, ◌≤◌, Bool, true, false, cond, List, [], ◌∷◌, ◌++◌, length, get_or, take, fold, refl, arith, ap, sym, ◌∙◌, inl, inr}
+use Rattle.std.proofs.Common.{◌≡◌, ℕ, ◌+◌, ◌-◌, ◌*◌, ◌<◌, ◌≤◌, true, false, List, [], ◌∷◌, ◌++◌, length, get_or, take, refl, arith, ap, ◌∙◌, inl, inr}
 use Rattle.std.specs.Prelude.{All, nat_lt}
-use Rattle.std.specs.List.{flat_map, list_any, sum_by}
-use Rattle.std.proofs.lemmas.Bool.{cases_Bool, and_parts, and_left, or_parts, ltb-true, cond_both, lt-ltb}
+use Rattle.std.specs.List.{list_any, sum_by}
+use Rattle.std.proofs.lemmas.Bool.{cases_Bool, and_parts, and_left, or_parts, ltb-true}
 use Rattle.std.proofs.lemmas.List.{take_more}
 use Rattle.std.proofs.lemmas.List.Sums.{sum_by_more}
 use Rattle.std.proofs.lemmas.List.Concat.{flat_map-append}
-use Rattle.std.proofs.lemmas.List.Elements.{All-nil, All-cons, All-head, All-tail, All-append}
+use Rattle.std.proofs.lemmas.List.Elements.{All-nil, All-cons}
 use Rattle.cds_base.specs.declared.cluster.Part.{Part}
 use Rattle.cds_trace.specs.Signal.{Signal}
 use Rattle.cds_events.specs.declared.segments.Segment.{Segment}

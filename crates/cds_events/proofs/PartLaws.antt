@@ -1,13 +1,13 @@
 -- Parts tile their cluster, also when they are cut, and the apex of each lies in it.
-use Rattle.std.proofs.Common.{◌≡◌, ℕ, suc, ◌+◌, ◌-◌, ◌*◌, ◌<◌, ◌≤◌, Bool, true, false, cond, List, [], ◌∷◌, ◌++◌, length, get_or, take, drop, fold, refl, arith, ap, sym, ◌∙◌, inl, inr}
+use Rattle.std.proofs.Common.{◌≡◌, ℕ, suc, ◌+◌, ◌-◌, ◌*◌, ◌<◌, ◌≤◌, cond, List, [], ◌∷◌, ◌++◌, length, get_or, take, drop, fold, refl, arith, ap, inl, inr}
 use Rattle.std.specs.Prelude.{All, nat_lt}
-use Rattle.std.specs.List.{flat_map, sum_by}
+use Rattle.std.specs.List.{sum_by}
 use Rattle.std.proofs.lemmas.Bool.{cases_Bool, cases_lt, ltb-false, ltb-true, lt-ltb, le-ltb}
 use Rattle.std.proofs.lemmas.List.{length-append, take_rest}
 use Rattle.std.proofs.lemmas.List.Sums.{sum_by-cons}
 use Rattle.std.proofs.lemmas.List.Elements.{All-nil, All-cons, All-head, All-tail, All-append}
 use Rattle.cds_base.specs.declared.cluster.Boundary.{Boundary}
-use Rattle.cds_base.specs.declared.cluster.Boundary.TheVariants.{Start, Valley}
+use Rattle.cds_base.specs.declared.cluster.Boundary.TheVariants.{Valley}
 use Rattle.cds_base.specs.declared.cluster.Part.{Part}
 use Rattle.cds_trace.specs.Signal.{Signal}
 use Rattle.cds_events.specs.declared.placed.Placed.{Placed}
@@ -16,8 +16,8 @@ use Rattle.cds_base.specs.Tiles.{Tiles}
 use Rattle.cds_events.specs.Parts.{valley, part_end, parts_from}
 use Rattle.cds_events.specs.Arrangement.{start_of, end_of}
 use Rattle.cds_events.specs.Drops.{is_cut, front, back, cut_by, cut_each, cut_all}
-use Rattle.cds_events.specs.Row.{IsPlaced, IsAhead, Row, IsInside, next_apex}
-use Rattle.cds_events.specs.Standing.{IsPart, IsCrest, BeginsAtStart}
+use Rattle.cds_events.specs.Row.{Row, IsInside, next_apex}
+use Rattle.cds_events.specs.Standing.{IsPart, BeginsAtStart}
 use Rattle.cds_events.proofs.TopLaws.{IsTop, first_greatest-top, first_least-within, top-crest}
 use Rattle.cds_events.proofs.CutLaws.{cut-inside}
 

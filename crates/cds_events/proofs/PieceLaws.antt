@@ -1,10 +1,10 @@
 -- Forced pieces lie within the trace, and share at most an end.
-use Rattle.std.proofs.Common.{◌≡◌, ℕ, ◌+◌, ◌-◌, ◌<◌, ◌≤◌, Bool, true, false, cond, ◌&&◌, List, [], ◌∷◌, ◌++◌, Option, Some, None, length, get_or, fold, refl, arith, ap, sym, ◌∙◌, inl, inr}
+use Rattle.std.proofs.Common.{◌≡◌, ℕ, ◌-◌, ◌<◌, ◌≤◌, Bool, true, false, ◌&&◌, List, [], ◌∷◌, ◌++◌, Option, Some, None, length, get_or, fold, refl, arith, ◌∙◌, inl, inr}
 use Rattle.std.specs.Prelude.{All, nat_lt, min, ◌⊎◌}
 use Rattle.std.specs.List.{list_any}
 use Rattle.std.specs.Option.{IfSome}
-use Rattle.std.proofs.lemmas.Bool.{cases_Bool, ltb-true, cond_both, and_cases, ltb-false}
-use Rattle.std.proofs.lemmas.List.Elements.{All-nil, All-push, All-weaker}
+use Rattle.std.proofs.lemmas.Bool.{cases_Bool, ltb-true, and_cases, ltb-false}
+use Rattle.std.proofs.lemmas.List.Elements.{All-nil, All-push}
 use Rattle.cds_base.specs.declared.event.Event.{Event}
 use Rattle.cds_base.specs.declared.event.Event.TheVariants.{Inhibit, Valley, Drop, Baseline, Slope, Skim}
 use Rattle.cds_trace.specs.Signal.{Signal}

@@ -1,11 +1,11 @@
 -- How raw peaks stand among the forced pieces.
-use Rattle.std.proofs.Common.{◌≡◌, ℕ, ◌+◌, ◌-◌, ◌<◌, ◌≤◌, Bool, true, false, cond, ◌&&◌, List, [], ◌∷◌, Option, Some, None, length, get_or, map, fold, refl, arith, ap, sym, ◌∙◌, inl, inr}
-use Rattle.std.specs.Prelude.{All, nat_lt, nat_le, min, max, ◌⊎◌, ◌==◌}
-use Rattle.std.specs.List.{list_any, find, filter, AllPairs}
-use Rattle.std.proofs.lemmas.Bool.{cases_Bool, cond_both, and_cases, and_parts, ltb-true, ltb-false, leb-true, leb-false, eqb-false}
+use Rattle.std.proofs.Common.{◌≡◌, ℕ, ◌+◌, ◌<◌, ◌≤◌, true, false, List, [], ◌∷◌, Option, Some, None, length, get_or, map, fold, refl, arith, inl, inr}
+use Rattle.std.specs.Prelude.{All, nat_lt, nat_le, min, max, ◌⊎◌}
+use Rattle.std.specs.List.{find, filter, AllPairs}
+use Rattle.std.proofs.lemmas.Bool.{cond_both, and_cases, and_parts, ltb-true, ltb-false, leb-false, eqb-false}
 use Rattle.std.proofs.lemmas.List.{length-map}
 use Rattle.std.proofs.lemmas.List.Kept.{AllPairs-filter, AllPairs-cons}
-use Rattle.std.proofs.lemmas.List.Elements.{All-nil, All-cons, All-map, All-filter, filter_passes, All-head, All-tail}
+use Rattle.std.proofs.lemmas.List.Elements.{All-nil, All-cons, All-map, All-filter, filter_passes}
 use Rattle.cds_base.specs.declared.peak.RawPeak.{RawPeak}
 use Rattle.cds_trace.specs.Signal.{Signal}
 use Rattle.cds_events.specs.declared.pieces.Piece.{Piece}

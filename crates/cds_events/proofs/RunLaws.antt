@@ -1,8 +1,8 @@
 -- The runs of fused peaks.
-use Rattle.std.proofs.Common.{◌≡◌, ℕ, suc, ◌+◌, ◌-◌, ◌<◌, ◌≤◌, Bool, true, false, List, [], ◌∷◌, length, get_or, take, drop, refl, arith, inl, inr, sym, ap, ◌∙◌}
+use Rattle.std.proofs.Common.{◌≡◌, ℕ, ◌<◌, Bool, false, List, [], ◌∷◌, length, get_or, take, drop, refl, arith, inl, inr, sym, ap}
 use Rattle.std.proofs.lemmas.Bool.{cases_Bool}
 use Rattle.cds_events.specs.declared.placed.Placed.{Placed}
-use Rattle.cds_events.specs.Runs.{before_runs, runs_of, fused_after, run_length}
+use Rattle.cds_events.specs.Runs.{runs_of, fused_after, run_length}
 
 abbrev nobody : Placed
 nobody = record { start = 0; apex = 0; end = 0; forced = false }

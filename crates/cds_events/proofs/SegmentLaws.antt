@@ -1,6 +1,6 @@
 -- The segments of a part between drop lines, and what they tell of the range between two lines.
-use Rattle.std.proofs.Common.{◌≡◌, ℕ, ◌+◌, ◌<◌, ◌≤◌, ◌⊎◌, Bool, true, false, ℤ, ◌<ℤ◌, ◌≤ℤ◌, List, [], ◌∷◌, ◌++◌, Option, Some, None, fold, refl, arith, ap, sym, ◌∙◌, subst, inl, inr}
-use Rattle.std.specs.Prelude.{All, nat_le, int_lt}
+use Rattle.std.proofs.Common.{◌≡◌, ℕ, ◌<◌, ◌≤◌, true, false, ℤ, ◌<ℤ◌, ◌≤ℤ◌, List, [], ◌∷◌, ◌++◌, Option, Some, None, fold, refl, arith, sym, subst, inl, inr}
+use Rattle.std.specs.Prelude.{nat_le, int_lt}
 use Rattle.std.proofs.lemmas.Bool.{cases_Bool, and_from, and_left, and_right, le-leb, lt-leb}
 use Rattle.std.proofs.lemmas.Int.{ints}
 use Rattle.std.proofs.lemmas.List.Elements.{All-nil, All-cons, All-head, All-tail}

@@ -1,6 +1,6 @@
 -- Drop lines, which cut parts. This project's own rule.
-use Rattle.std.specs.Prelude.{ℕ, ◌&&◌, ◌==◌, Bool, not, List, [], ◌∷◌, Option, Some, None, nat_lt, if◌then◌else◌}
-use Rattle.std.specs.List.{fold, filter_map, flat_map}
+use Rattle.std.specs.Prelude.{ℕ, ◌&&◌, ◌==◌, Bool, true, false, not, List, [], ◌∷◌, Option, Some, None, nat_lt, if◌then◌else◌}
+use Rattle.std.specs.List.{fold, filter_map, flat_map, count_by}
 use Rattle.cds_base.specs.declared.event.Event.{Event}
 use Rattle.cds_base.specs.declared.event.Event.TheVariants as event
 use Rattle.cds_base.specs.declared.cluster.Boundary.TheVariants as boundary
@@ -21,6 +21,19 @@ drop_sample period (event.Skim from to) = None
 -- the samples of the drop events, in the order of the list
 abbrev pub drop_samples : ℕ → List Event → List ℕ
 drop_samples period events = filter_map (drop_sample period) events
+
+-- whether an event is a drop
+abbrev pub is_drop : Event → Bool
+is_drop (event.Inhibit from to) = false
+is_drop (event.Valley from to) = false
+is_drop (event.Drop at) = true
+is_drop (event.Baseline from to) = false
+is_drop (event.Slope at on off) = false
+is_drop (event.Skim from to) = false
+
+-- how many of the events are drops
+abbrev pub drop_count : List Event → ℕ
+drop_count events = count_by is_drop events
 
 -- a drop line at a sample has a part on both of its sides
 abbrev pub crosses : ℕ → Part → Bool

@@ -1,5 +1,5 @@
 -- Raw peaks where they stand among the forced pieces. This project's own rule.
-use Rattle.std.specs.Prelude.{ℕ, ◌&&◌, Bool, true, false, List, map, Option, Some, None, min, max, nat_lt, nat_le, if◌then◌else◌}
+use Rattle.std.specs.Prelude.{◌&&◌, Bool, true, false, List, map, Option, Some, None, min, max, nat_lt, nat_le, if◌then◌else◌}
 use Rattle.std.specs.List.{fold, filter, find}
 use Rattle.cds_base.specs.declared.peak.RawPeak.{RawPeak}
 use Rattle.cds_events.specs.declared.pieces.Piece.{Piece}

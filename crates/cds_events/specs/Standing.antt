@@ -2,7 +2,6 @@
 use Rattle.std.specs.Prelude.{◌≡◌, ℕ, ◌+◌, ◌-◌, ◌<◌, ◌≤◌, ◌≤ℤ◌, ◌<ℤ◌, List, [], ◌∷◌, All, length}
 use Rattle.std.specs.List.{sum_by}
 use Rattle.cds_base.specs.declared.peak.RawPeak.{RawPeak}
-use Rattle.cds_base.specs.declared.cluster.Boundary.{Boundary}
 use Rattle.cds_base.specs.declared.cluster.Boundary.TheVariants.{Start}
 use Rattle.cds_base.specs.declared.cluster.Part.{Part}
 use Rattle.cds_base.specs.declared.cluster.Cluster.{Cluster}

@@ -1,6 +1,6 @@
 ghost use Rattle.std.specs.Prelude.{◌≡◌, ◌+◌, ◌*◌, ◌<◌, ◌≤◌, ◌++◌, IfOk, length, map};
 ghost use Rattle.cds_events.specs.Runs.{fused, runs_of};
-ghost use Rattle.cds_events.specs.Drops.{drop_samples};
+ghost use Rattle.cds_events.specs.Drops.{drop_count};
 ghost use Rattle.cds_events.specs.Arrangement.{gap_of, cluster_of, clusters_of, start_of, end_of};
 ghost use Rattle.cds_events.specs.Standing.{RawFrom, ClustersFrom, part_count};
 ghost use Rattle.cds_events.specs.Row.{Row, RunsFrom};
@@ -42,7 +42,7 @@ fn cluster_of<L: Ledger>(
     })
 }
 
-/// The clusters of the runs of these peaks.
+/// The clusters of the runs of these peaks. At most three steps for each sample of the trace.
 fn clusters_of_runs<L: Ledger>(
     alloc: Global,
     gap: u32,
@@ -87,7 +87,7 @@ fn clusters_of_runs<L: Ledger>(
 ///
 /// The raw peaks must stand one after the other in the trace, the apex of each strictly inside its range and its first
 /// greatest sample, as those that the detector finds do. The answer is the clusters in
-/// the order of their ranges, which share ends at most. Want of memory is the one other answer. At most 3 steps for each
+/// the order of their ranges, which share ends at most, with no more parts in all than raw peaks and drop events. Want of memory is the one other answer. At most 3 steps for each
 /// sample of the trace, however many events there are. The rules are this project's own.
 pub fn arrange<L: Ledger>(
     alloc: Global,
@@ -101,8 +101,8 @@ pub fn arrange<L: Ledger>(
     ensures value { IfOk result (λ clusters.
         clusters ≡ clusters_of trace.now (gap_of method.now) (method.now.events ++ manual.now) raw.now) }
     ensures stand { IfOk result (λ clusters. ClustersFrom trace.now 0 clusters) }
-    ensures few { let drops = drop_samples trace.now.period (method.now.events ++ manual.now) in
-        IfOk result (λ clusters. part_count clusters ≤ length raw.now + length drops) }
+    ensures few { IfOk result (λ clusters.
+        part_count clusters ≤ length raw.now + drop_count (method.now.events ++ manual.now)) }
     ensures least { steps.old ≤ steps.new }
     ensures most { steps.new ≤ steps.old + 3 * length trace.now.samples }
 {

@@ -16,3 +16,6 @@ mod valleys;
 
 pub use arrangement::arrange;
 pub use clusters::Clusters;
+
+#[cfg(test)]
+mod tests;

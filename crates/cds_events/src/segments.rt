@@ -1,6 +1,6 @@
 ghost use Rattle.std.specs.Prelude.{◌≡◌, ◌+◌, ◌*◌, ◌<◌, ◌≤◌, All, IfOk, None, length};
 ghost use Rattle.std.specs.List.{fold};
-ghost use Rattle.cds_events.specs.Segments.{IsSegment, Covers, IsOutside, IsMark, higher, is_within, best_with, top_or, top_within};
+ghost use Rattle.cds_events.specs.Segments.{IsSegment, Covers, IsOutside, IsMark, higher, is_within, best_with, top_within};
 
 use cds_base::{NoMemory, Steps};
 use cds_trace::Trace;
@@ -17,7 +17,12 @@ pub(crate) struct Segment {
 }
 
 /// Reads a segment. One step for each sample, its ends among them.
-fn segment_between<L: Ledger>(trace: &Trace, from: u32, to: u32, steps: &mut Steps<L>) -> Segment
+pub(crate) fn segment_between<L: Ledger>(
+    trace: &Trace,
+    from: u32,
+    to: u32,
+    steps: &mut Steps<L>,
+) -> Segment
     requires order { from < to }
     requires end { to < length trace.now.samples }
     ensures value { IsSegment trace.now result }

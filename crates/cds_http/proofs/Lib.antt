@@ -7,3 +7,5 @@ pub mod StateLemmas
 pub mod ItemLemmas
 pub mod KnownLemmas
 pub mod MessageLemmas
+pub mod SizeLemmas
+pub mod TotalityLemmas

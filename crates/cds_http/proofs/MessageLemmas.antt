@@ -72,7 +72,7 @@ answer_decides s (Head head) answer knows is = record {
 -- ---- the message that a request is
 
 -- the head of a front is read in its bytes
-front_reads : (place : ℕ) (bytes : List ℕ) (size : ℕ) (h : RequestHead) (body : ℕ) → IsFront place bytes (heads size h body) → ReadsRequest (take size bytes) h []
+pub front_reads : (place : ℕ) (bytes : List ℕ) (size : ℕ) (h : RequestHead) (body : ℕ) → IsFront place bytes (heads size h body) → ReadsRequest (take size bytes) h []
 front_reads place bytes size h body = in_state (head_state bytes)
   where
     with_read : (n : ℕ) (k : RequestHead) (r : Result ℕ TheFault) → ReadsRequest (take n bytes) k [] → heads size h body ≡ with_length n k r → ReadsRequest (take size bytes) h []
@@ -114,7 +114,7 @@ module _ (bytes a m t r d : List ℕ) (parts : bytes ≡ (a ++ (m ++ 32 ∷ (t +
       ap (λ (b : List ℕ). slice_range b (length a + length m + 1) (length a + length m + 1 + length t)) split
       ∙ slice_word front t (32 ∷ (r ++ d)) (length a + length m + 1) (length a + length m + 1 + length t) start refl
 
-front_parts : (bytes : List ℕ) (size : ℕ) (h : RequestHead) → ReadsRequest (take size bytes) h []
+pub front_parts : (bytes : List ℕ) (size : ℕ) (h : RequestHead) → ReadsRequest (take size bytes) h []
     → (r : List ℕ) × (bytes ≡ (print_blank h.blank ++ (h.method ++ 32 ∷ (h.target ++ 32 ∷ r))) ++ drop size bytes)
 front_parts bytes size h reads = (
   print_version h.minor ++ (print_end h.line_end ++ (print_section h.fields h.last ++ [])),

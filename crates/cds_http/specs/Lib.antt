@@ -6,3 +6,4 @@ pub mod Stream
 pub mod Scan
 pub mod Known
 pub mod Inside
+pub mod Totality

@@ -61,7 +61,7 @@ fn append(held: &mut Vec<u8>, piece: &[u8])
 }
 
 /// Adds bytes behind those held, which begin at `start`, and answers where they begin then. Those held are moved
-/// where the room behind them is used up.
+/// where the room behind them is too small for the piece.
 fn take_in(held: &mut Vec<u8>, start: usize, piece: &[u8]) -> usize
     requires start { start ≤ vec_len held.old }
     requires total { vec_len held.old ≤ MESSAGE_ROOM }
@@ -148,7 +148,7 @@ impl Messages {
 
     /// Takes the next bytes of the stream, at most `room` of them. The stream with them is below 2^64 bytes, and no
     /// request that closes the connection was dropped. The bytes held are moved only where the room behind them is
-    /// used up.
+    /// too small for the piece.
     pub fn feed(&mut self, piece: &[u8])
         requires in_room { length piece.now ≤ room_of self.old }
         requires counted { self.old.place + length self.old.bytes + length piece.now < 2 ^ 64 }

@@ -26,7 +26,7 @@ pub struct Request {
 /// Why the stream is no list of messages. A place is the number of bytes of the stream before the message.
 #[derive(Clone, Copy, Debug, PartialEq, Eq)]
 pub enum Fault {
-    /// The head is none by the grammar, or it doesn't state one length of its body.
+    /// The head is none by the grammar, or it has two fields `Content-Length`, or one whose value isn't 1 to 19 digits.
     Head(u64),
     /// The input ended within the message.
     Truncated(u64),

@@ -90,21 +90,18 @@ fn items(alloc: Global, stream: &[u8], first: usize, step: usize) -> Result<Vec<
     }
 }
 
-/// Whether the stream has these items, fed whole, byte by byte and in every cut in two; of a stream of more than
-/// `MOST_CUTS` bytes, in its last cuts.
+/// Whether the stream has these items, fed whole, byte by byte and in every cut in two.
 fn has_items(alloc: Global, stream: &[u8], expected: &[u8]) -> Result<bool, AllocError> {
     if items(alloc, stream, 1, 1)?.as_slice() != expected {
         return Ok(false);
     }
-    for first in stream.len().saturating_sub(MOST_CUTS)..=stream.len() {
+    for first in 0..stream.len() + 1 {
         if items(alloc, stream, first, usize::MAX)?.as_slice() != expected {
             return Ok(false);
         }
     }
     Ok(true)
 }
-
-const MOST_CUTS: usize = 600;
 
 /// What a row shows, its stream and its items.
 const STREAMS: [(&str, &[u8], &[u8]); 26] = [
@@ -244,32 +241,41 @@ fn repeated(
     Ok(stream)
 }
 
+const LINE: &[u8] = b"GET / HTTP/1.1\r\n";
+
 #[test]
 fn streams_have_their_items(rt: HostRuntime) -> Result<(), Fail> {
     for (shows, stream, expected) in STREAMS {
         assert!(rt; has_items(rt.alloc(), stream, expected)?, "{shows}");
     }
-    let line = b"GET / HTTP/1.1\r\n";
-    // How often a text comes between the request line and the end, and the items. A line of 16 bytes, 16,363 bytes
-    // of a name and the last 5 bytes are a head that is as long as one can be.
-    for (middle, times, back, expected) in [
-        (
-            b"a: b\r\n".as_slice(),
-            64,
-            b"\r\n".as_slice(),
-            b"GET /  1.1; ".as_slice(),
-        ),
-        (b"a: b\r\n", 65, b"\r\n", b"fields"),
-        (b"a", 16_363, b":\r\n\r\n", b"GET /  1.1; "),
-        (b"a", 16_364, b":\r\n\r\n", b"size"),
-    ] {
-        let stream = repeated(rt.alloc(), line, middle, times, back)?;
-        assert!(rt; has_items(rt.alloc(), &stream, expected)?, "{times}");
+    for (fields, expected) in [(64, b"GET /  1.1; ".as_slice()), (65, b"fields")] {
+        let stream = repeated(rt.alloc(), LINE, b"a: b\r\n", fields, b"\r\n")?;
+        assert!(rt;
+            has_items(rt.alloc(), &stream, expected)?,
+            "{fields} fields"
+        );
     }
-    let empty = repeated(rt.alloc(), b"", b"\r\n", 8_192, b"GET / HTTP/1.1\r\n\r\n")?;
-    assert!(rt;
-        has_items(rt.alloc(), &empty, b"size")?,
-        "empty lines alone"
-    );
+    Ok(())
+}
+
+// A line of 16 bytes, 16,363 bytes of a name and the last 5 bytes are a head that is as long as one can be.
+#[test]
+fn the_longest_head_is_a_request(rt: HostRuntime) -> Result<(), Fail> {
+    let stream = repeated(rt.alloc(), LINE, b"a", 16_363, b":\r\n\r\n")?;
+    assert!(rt; has_items(rt.alloc(), &stream, b"GET /  1.1; ")?);
+    Ok(())
+}
+
+#[test]
+fn a_head_of_one_byte_more_is_too_large(rt: HostRuntime) -> Result<(), Fail> {
+    let stream = repeated(rt.alloc(), LINE, b"a", 16_364, b":\r\n\r\n")?;
+    assert!(rt; has_items(rt.alloc(), &stream, b"size")?);
+    Ok(())
+}
+
+#[test]
+fn empty_lines_count_for_the_head(rt: HostRuntime) -> Result<(), Fail> {
+    let stream = repeated(rt.alloc(), b"", b"\r\n", 8_192, b"GET / HTTP/1.1\r\n\r\n")?;
+    assert!(rt; has_items(rt.alloc(), &stream, b"size")?);
     Ok(())
 }

@@ -24,9 +24,9 @@ pub enum Weight {
 pub struct Method {
     /// How many samples are summed to one bunch, 1 to 64.
     pub bunch: u32,
-    /// The slope above which a peak rises, 1 to 1,000,000,000 counts per second.
+    /// The least slope at which a peak begins to rise, 1 to 1,000,000,000 counts per second.
     pub slope_on: u32,
-    /// The slope below which a peak falls, 1 to 1,000,000,000 counts per second.
+    /// The least slope, downwards, at which it falls, 1 to 1,000,000,000 counts per second.
     pub slope_off: u32,
     /// How many flat bunches a climb passes over before the next one ends it, at most 1,000.
     pub plateau: u32,
@@ -67,7 +67,7 @@ impl Method {
     ghost use Rattle.cds_rules.specs.declared.method.Weight.TheVariants.{Equal};
 
     /// The method of these four numbers, which has no components, events or checks, no dead time and no noise
-    /// window, reports every peak, fuses only peaks that touch, weights all points alike and follows the rules of
+    /// window, rejects no peak for a small area or height, fuses only peaks that touch, weights all points alike and follows the rules of
     /// edition 1. It takes no memory.
     pub fn of_slopes(
         alloc: Global,

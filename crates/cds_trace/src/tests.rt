@@ -104,3 +104,40 @@ fn a_trace_is_written_copied_and_recorded(rt: HostRuntime) -> Result<(), Fail> {
     assert_eq!(rt; bytes.as_slice(), want);
     Ok(())
 }
+
+// A text of so many samples of 0, one in each microsecond, and a last record behind them.
+fn text_of_zeros(alloc: Global, samples: u32, last: &str) -> Result<String, Fail> {
+    let mut text = String::from_str(alloc, "time_us,signal\n")?;
+    for time in 0..samples {
+        write!(text, "{time},0\n")?;
+    }
+    text.push_str(last)?;
+    Ok(text)
+}
+
+fn zeros(alloc: Global, samples: usize) -> Result<Vec<i32>, Fail> {
+    let mut zeros = Vec::new(alloc);
+    zeros.resize(samples, 0)?;
+    Ok(zeros)
+}
+
+#[test]
+fn more_than_100_000_samples_are_too_long(rt: HostRuntime) -> Result<(), Fail> {
+    let alloc = rt.alloc();
+    for (samples, number) in [(100_000, 0), (100_001, 6)] {
+        let given = zeros(alloc, samples)?;
+        let got = told(Trace::from_samples(alloc, 1, given.as_slice()));
+        assert_eq!(rt; got, (number, 0), "for {samples}");
+    }
+    for (samples, last, number, record) in [
+        (100_000, "", 0, 0),
+        (100_000, "100000,0\n", 6, 0),
+        (100_000, "100000,0,0\n", 6, 0),
+        (99_999, "99999,0,0\n", 1, 100_001),
+    ] {
+        let text = text_of_zeros(alloc, samples, last)?;
+        let got = told(Trace::read_csv(alloc, text.as_bytes()));
+        assert_eq!(rt; got, (number, record), "for {last}");
+    }
+    Ok(())
+}

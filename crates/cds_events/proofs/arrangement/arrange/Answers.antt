@@ -1,4 +1,4 @@
-use Rattle.std.proofs.Common.{◌≡◌, ◌∙◌, ◌++◌, arith, sym}
+use Rattle.std.proofs.Common.{◌≡◌, ◌∙◌, ◌++◌}
 use Rattle.cds_events.specs.Arrangement.{gap_of, clusters_of}
 use Rattle.cds_events.proofs.ClusterLaws.{runs-from, clusters_of-stand, clusters_of-few}
 use Rattle.cds_events.proofs.arrangement.arrange.Goals as goal

@@ -1,6 +1,4 @@
-use Rattle.std.proofs.Common.{◌≡◌, ◌∙◌, ℕ, ◌+◌, ◌-◌, ◌*◌, ◌≤◌, List, arith, sym}
-use Rattle.std.specs.List.{sum_by}
-use Rattle.cds_base.specs.declared.cluster.Part.{Part}
+use Rattle.std.proofs.Common.{◌≡◌, ◌∙◌, arith}
 use Rattle.cds_events.proofs.ClusterLaws.{run-inside, run-span}
 use Rattle.cds_events.proofs.arrangement.cluster_of.Goals as goal
 

@@ -1,9 +1,9 @@
-use Rattle.std.proofs.Common.{◌≡◌, ◌∙◌, ℕ, ◌++◌, List, [], ◌∷◌, Bool, length, take, drop, map, ◌<◌, ◌≤◌, arith, ap, sym}
+use Rattle.std.proofs.Common.{refl, ◌≡◌, ◌∙◌, ℕ, ◌++◌, List, [], ◌∷◌, Bool, length, take, ◌<◌, arith, ap}
 use Rattle.cds_base.specs.declared.cluster.Cluster.{Cluster}
 use Rattle.cds_events.specs.declared.placed.Placed.{Placed}
-use Rattle.cds_events.specs.Runs.{fused, runs_of}
-use Rattle.cds_events.specs.Arrangement.{cluster_of, start_of, end_of}
-use Rattle.cds_events.specs.Row.{Row, RunsFrom, reached}
+use Rattle.cds_events.specs.Runs.{fused}
+use Rattle.cds_events.specs.Arrangement.{cluster_of, end_of}
+use Rattle.cds_events.specs.Row.{reached}
 use Rattle.cds_events.proofs.ClusterLaws.{runs-split, made-more, reached-push, run-ends}
 use Rattle.cds_events.proofs.arrangement.clusters_of_runs.Goals as goal
 
@@ -41,8 +41,9 @@ loop-rest-preserved g c =
     let some : 0 < length rest = omega arith in
     let stand = runs-split c.args.trace.now (reached c.loop-rest.clusters.items) joins rest count some told.value kept.runs in
     let cluster : Cluster = cluster_of c.args.trace.now c.args.drops.now (take count rest) in
-    let made : c.push.new.self.items ≡ c.loop-rest.clusters.items ++ cluster ∷ [] =
-    c.in_ok-push.ensures.items ∙ ap (λ x. c.loop-rest.clusters.items ++ x ∷ []) (rw c.split_at.ensures.front at c.in_ok-cluster_of.ensures.value) in
+    let front : c.split_at.result.0.now ≡ take count rest = c.split_at.ensures.front in
+    let is : c.in_ok-cluster_of.field-0 ≡ cluster = rw front at c.in_ok-cluster_of.ensures.value in
+    let made : c.push.new.self.items ≡ c.loop-rest.clusters.items ++ cluster ∷ [] = rw (c.in_ok-push.ensures.items, is) refl in
     let end : reached c.push.new.self.items ≡ end_of (take count rest) = ap reached made ∙ reached-push c.loop-rest.clusters.items cluster in
     let most = rw c.split_at.ensures.front at c.cluster_of.ensures.most in
     let ends = run-ends c.args.trace.now (take count rest) stand.1 stand.2 in

@@ -1,4 +1,4 @@
-use Rattle.std.proofs.Common.{◌≡◌, ℕ, ◌+◌, ◌-◌, ◌<◌, ◌≤◌, length, drop}
+use Rattle.std.proofs.Common.{◌≡◌, ◌+◌, ◌-◌, ◌≤◌, length, drop}
 use Rattle.cds_events.specs.Runs.{fused, fused_after, run_length}
 use Rattle.cds_events.proofs.RunLaws.{peak_at}
 use Rattle.cds_events.proofs.runs.run_length.Given as goal

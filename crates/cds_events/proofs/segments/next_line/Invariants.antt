@@ -1,4 +1,4 @@
-use Rattle.std.proofs.Common.{ℕ, ◌<◌, ◌≤◌, take}
+use Rattle.std.proofs.Common.{◌<◌, ◌≤◌, take}
 use Rattle.std.specs.Prelude.{All}
 use Rattle.cds_events.specs.Segments.{IsOutside}
 use Rattle.cds_events.proofs.segments.next_line.Given as goal

@@ -1,4 +1,4 @@
-use Rattle.std.proofs.Common.{ℕ, ◌+◌, ◌-◌, ◌*◌, ◌<◌, ◌≤◌}
+use Rattle.std.proofs.Common.{◌+◌, ◌-◌, ◌*◌, ◌≤◌}
 use Rattle.std.specs.Prelude.{All}
 use Rattle.cds_events.specs.Segments.{Covers, IsMark}
 use Rattle.cds_events.proofs.segments.segments_between.Given as goal

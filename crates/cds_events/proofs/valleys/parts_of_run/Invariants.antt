@@ -1,4 +1,4 @@
-use Rattle.std.proofs.Common.{◌≡◌, ◌+◌, ◌≤◌, ◌<◌, ◌++◌, length, fold}
+use Rattle.std.proofs.Common.{◌≡◌, ◌+◌, ◌≤◌, ◌++◌, length, fold}
 use Rattle.cds_base.specs.declared.cluster.Boundary.TheVariants.{Start}
 use Rattle.cds_events.specs.Parts.{parts_from}
 use Rattle.cds_events.specs.Arrangement.{start_of, end_of}

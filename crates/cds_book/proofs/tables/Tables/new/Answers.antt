@@ -1,0 +1,9 @@
+use Rattle.std.proofs.Common.{None, refl}
+use Rattle.cds_book.specs.declared.tables.Tables.TheInside.{Inside}
+use Rattle.cds_book.proofs.RoomLaws.{IsHeld-empty}
+use Rattle.cds_book.proofs.tables.Tables.new.Goals as goal
+
+pub invariant_of-result : goal.invariant_of-result
+invariant_of-result c =
+    let a : Inside = record { traces = c.new.result; trace_versions = 0; samples = 0; methods = c.new-2.result; method_versions = 0; room = None } in
+    IsHeld-empty a c.new.ensures.items c.new-2.ensures.items refl refl refl refl

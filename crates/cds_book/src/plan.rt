@@ -1,0 +1,160 @@
+ghost use Rattle.std.specs.Prelude.{◌≡◌, false, option_copied, IsSome};
+ghost use Rattle.std.specs.Option.{option_map_or};
+ghost use Rattle.std.specs.Str.{bytes_eq};
+ghost use Rattle.cds_book.specs.Plan.{planned, applied, counts_of, is_latest, limit_passed, same_signal, Answers, AnswersAccepted, IsCommand};
+ghost use Rattle.cds_book.specs.Tables.{draft_of};
+ghost use Rattle.cds_book.specs.declared.command.Command.TheVariants as command;
+ghost use Rattle.cds_book.specs.declared.command.Change.TheVariants as change;
+
+use crate::command::{Change, Command, Plan};
+use crate::error::PlanError;
+use crate::limits::{
+    MOST_METHOD_VERSIONS, MOST_METHODS, MOST_SAMPLES_IN_ALL, MOST_TRACE_NAMES, MOST_TRACE_VERSIONS,
+    MOST_VERSIONS,
+};
+use crate::tables::Tables;
+use cds_base::{Bytes, Name};
+use cds_trace::Trace;
+use std::alloc::Global;
+
+impl Tables {
+    /// What a command comes to: Unchanged where the trace is equal to the latest version of its name, the text to
+    /// the draft, or the draft to the latest version, whatever number a freeze names; else a change. A freeze is
+    /// refused with NoMethod where the name has no draft, before that; and with Number where its number isn't the
+    /// next one. Full is judged last: a trace may pass the limits on names, versions of the name, versions in all
+    /// and samples in all, a draft that on methods, a freeze those on versions of the method and versions in all;
+    /// the first one that is passed is answered. The tables stay as they are.
+    pub fn plan(&self, alloc: Global, command: &Command) -> Result<Plan, PlanError>
+        requires { IsCommand command.now }
+        ensures value { Answers result (planned self.now.state command.now) }
+        ensures accepted { AnswersAccepted self.now.state result }
+    {
+        match command {
+            Command::Trace { name, trace } => self.plan_trace(alloc, *name, trace),
+            Command::Draft { name, text } => self.plan_draft(alloc, *name, text),
+            Command::Freeze { name, version } => self.plan_freeze(*name, *version),
+        }
+    }
+
+    fn plan_trace(&self, alloc: Global, name: Name, trace: &Trace) -> Result<Plan, PlanError>
+        ensures { Answers result (planned self.now.state (command.Trace name trace.now)) }
+    {
+        if is_latest_trace(self.signals(name), trace) {
+            return Ok(Plan::Unchanged);
+        }
+        if let Some(limit) = limit_passed(&self.trace_counts(name, trace)) {
+            return Err(PlanError::Full(limit));
+        }
+        let trace = trace.copy(alloc)?;
+        Ok(Plan::Change(Change::Trace { name, trace }))
+    }
+
+    // The counts that a trace raises, with their limits.
+    fn trace_counts(&self, name: Name, trace: &Trace) -> [(u64, u64); 4]
+        ensures { result ≡ counts_of (change.Trace name trace.now) (applied self.now.state (change.Trace name trace.now)) }
+    {
+        let versions = self.signals(name);
+        let names = self.traces.len() as u64 + u64::from(versions.is_empty());
+        [
+            (names, MOST_TRACE_NAMES),
+            (versions.len() as u64 + 1, MOST_VERSIONS),
+            (self.trace_versions + 1, MOST_TRACE_VERSIONS),
+            (self.samples + u64::from(trace.len()), MOST_SAMPLES_IN_ALL),
+        ]
+    }
+
+    fn plan_draft(&self, alloc: Global, name: Name, text: &Bytes) -> Result<Plan, PlanError>
+        ensures { Answers result (planned self.now.state (command.Draft name text.now)) }
+    {
+        if is_draft(self.draft(name), text.as_slice()) {
+            return Ok(Plan::Unchanged);
+        }
+        if let Some(limit) = limit_passed(&self.draft_counts(name, text)) {
+            return Err(PlanError::Full(limit));
+        }
+        let text = Bytes::from_vec(Vec::from_slice(alloc, text.as_slice())?);
+        Ok(Plan::Change(Change::Draft { name, text }))
+    }
+
+    // The count that a draft raises, with its limit.
+    fn draft_counts(&self, name: Name, text: &Bytes) -> [(u64, u64); 1]
+        ensures { result ≡ counts_of (change.Draft name text.now) (applied self.now.state (change.Draft name text.now)) }
+    {
+        let is_new = self.draft(name).is_none();
+        [(self.methods.len() as u64 + u64::from(is_new), MOST_METHODS)]
+    }
+
+    fn plan_freeze(&self, name: Name, version: u32) -> Result<Plan, PlanError>
+        ensures { Answers result (planned self.now.state (command.Freeze name version)) }
+    {
+        let Some(draft) = self.draft(name) else {
+            return Err(PlanError::NoMethod(name));
+        };
+        let texts = self.texts(name);
+        if is_latest_text(texts, draft) {
+            return Ok(Plan::Unchanged);
+        }
+        let next = texts.len() as u32 + 1;
+        if version != next {
+            return Err(PlanError::Number(next));
+        }
+        if let Some(limit) = limit_passed(&self.freeze_counts(name, version)) {
+            return Err(PlanError::Full(limit));
+        }
+        Ok(Plan::Change(Change::Freeze { name, version }))
+    }
+
+    // The counts that a freeze raises, with their limits.
+    fn freeze_counts(&self, name: Name, version: u32) -> [(u64, u64); 2]
+        requires { IsSome (draft_of self.now.state name) }
+        ensures { result ≡ counts_of (change.Freeze name version) (applied self.now.state (change.Freeze name version)) }
+    {
+        let texts = self.texts(name);
+        [
+            (texts.len() as u64 + 1, MOST_VERSIONS),
+            (self.method_versions + 1, MOST_METHOD_VERSIONS),
+        ]
+    }
+}
+
+// Whether a trace is equal to the latest of the versions.
+fn is_latest_trace(versions: &[Trace], trace: &Trace) -> bool
+    ensures { result ≡ is_latest same_signal versions.now trace.now }
+{
+    versions
+        .last()
+        .is_some_and(|version| is_same(version, trace))
+}
+
+// Whether two traces are equal.
+fn is_same(version: &Trace, trace: &Trace) -> bool
+    ensures { result ≡ same_signal version.now trace.now }
+{
+    version.same(trace)
+}
+
+// Whether a text is the latest of the versions.
+fn is_latest_text(versions: &[Bytes], text: &[u8]) -> bool
+    ensures { result ≡ is_latest bytes_eq versions.now text.now }
+{
+    versions
+        .last()
+        .is_some_and(|version| version.as_slice() == text)
+}
+
+// Whether there is a draft and it is this text.
+fn is_draft(draft: Option<&[u8]>, text: &[u8]) -> bool
+    ensures { result ≡ option_map_or (λ d. bytes_eq d text.now) (option_copied draft.entry) false }
+{
+    draft.is_some_and(|draft| draft == text)
+}
+
+// The first limit that a count passes.
+fn limit_passed(counts: &[(u64, u64)]) -> Option<u64>
+    ensures { result ≡ limit_passed counts.now }
+{
+    counts
+        .iter()
+        .find(|(count, limit)| limit < count)
+        .map(|(_, limit)| *limit)
+}

@@ -1,0 +1,35 @@
+use cds_base::{Bytes, Name};
+use cds_trace::Trace;
+
+/// The room that was taken for a change of the thing of this name, and the place in byte order of the names to
+/// which the change goes.
+#[derive(Debug, Drop)]
+pub(crate) enum Taken {
+    /// For one more version of a trace.
+    Version {
+        name: Name,
+        at: usize,
+    },
+    /// For a new trace name, with the list that its first version goes into.
+    Traces {
+        name: Name,
+        at: usize,
+        versions: Vec<Trace>,
+    },
+    /// For another draft of a method. It needs none.
+    Draft {
+        name: Name,
+        at: usize,
+    },
+    /// For a new method.
+    Method {
+        name: Name,
+        at: usize,
+    },
+    /// For one more version of a method, with a copy of its draft.
+    Freeze {
+        name: Name,
+        at: usize,
+        text: Bytes,
+    },
+}

@@ -1,0 +1,52 @@
+ghost use Rattle.std.specs.Prelude.{◌≡◌, None};
+ghost use Rattle.cds_book.specs.Tables.{empty_tables};
+
+use crate::entry::{MethodEntry, TraceEntry};
+use crate::room::Taken;
+use std::alloc::Global;
+use std::marker::Model;
+
+/// The tables: traces under their names in versions, and methods with a draft and frozen versions, all numbered
+/// from 1. They hold texts and samples as they were sent, and no result. Seen as what they hold, and as the kind
+/// and the name of the change for which room was taken. Whatever was done to them, names rise in byte order, each
+/// version differs from the one before it, each text is a method, and no count passes its limit.
+#[derive(Debug, Drop)]
+pub struct Tables {
+    pub(crate) traces: Vec<TraceEntry>,
+    /// How many versions all trace names have together.
+    pub(crate) trace_versions: u64,
+    /// How many samples all versions have together.
+    pub(crate) samples: u64,
+    pub(crate) methods: Vec<MethodEntry>,
+    /// How many versions all methods have together.
+    pub(crate) method_versions: u64,
+    pub(crate) room: Option<Taken>,
+}
+
+impl Model for Tables {
+    ghost use Rattle.cds_book.specs.Tables.{TablesValue};
+
+    ghost Value = { TablesValue };
+
+    ghost use Rattle.cds_book.specs.Held.{tables_held, IsHeld};
+
+    ghost view = { tables_held };
+
+    ghost invariant = { IsHeld };
+}
+
+impl Tables {
+    /// Tables that hold nothing. They take no memory.
+    pub fn new(alloc: Global) -> Tables
+        ensures { result ≡ record { state = empty_tables; room = None } }
+    {
+        Tables {
+            traces: Vec::new(alloc),
+            trace_versions: 0,
+            samples: 0,
+            methods: Vec::new(alloc),
+            method_versions: 0,
+            room: None,
+        }
+    }
+}

@@ -1,0 +1,3 @@
+pub mod Unknown
+pub mod Utf8
+pub mod Written

@@ -1,0 +1,5 @@
+pub mod Section
+pub mod Seen
+pub mod Values
+pub mod Stated
+pub mod Reply
