@@ -3,3 +3,6 @@ pub mod RowLaws
 pub mod PartLaws
 pub mod NodeLaws
 pub mod ShapeLaws
+pub mod AreaLaws
+pub mod FoundLaws
+pub mod PeakLaws

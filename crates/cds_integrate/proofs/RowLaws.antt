@@ -5,7 +5,7 @@ use Rattle.std.specs.List.{fold}
 use Rattle.std.proofs.lemmas.Bool.{cases_Bool}
 use Rattle.cds_trace.specs.Signal.{Signal}
 use Rattle.cds_integrate.specs.declared.shapes.Shape.{Shape}
-use Rattle.cds_integrate.specs.Measures.{riders, reach_over, area_end, gross_area, gross_areas, twice_whole_area, twice_areas}
+use Rattle.cds_integrate.specs.Measures.{riders, reach_over, area_end, gross_area, gross_areas, twice_whole_area, twice_areas, measure, measured}
 use Rattle.cds_integrate.specs.Standing.{from_reach, IsShape, Reaches, InRow}
 
 -- one more rider
@@ -67,6 +67,11 @@ row-at signal shapes k start end below row =
 pub gross-at : (signal : Signal) (shapes : List Shape) (k : ℕ) → k < length shapes →
     gross_areas signal (drop k shapes) ≡ gross_area signal (get_or shapes k no_shape) (drop (k + 1) shapes) ∷ gross_areas signal (drop (k + 1) shapes)
 gross-at signal shapes k below = ap (gross_areas signal) (shapes-at shapes k below)
+
+-- parts with their measures from one on
+pub measured-at : (signal : Signal) (shapes : List Shape) (k : ℕ) → k < length shapes →
+    measured signal (drop k shapes) ≡ measure signal (get_or shapes k no_shape) (drop (k + 1) shapes) ∷ measured signal (drop (k + 1) shapes)
+measured-at signal shapes k below = ap (measured signal) (shapes-at shapes k below)
 
 -- what holds of one entry holds of a list of it alone
 pub one-all : {X : Type 0} (P : X → Type 0) (x : X) → P x → All P (x ∷ [])

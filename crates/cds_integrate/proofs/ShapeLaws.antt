@@ -86,7 +86,7 @@ rider-is signal part trace within is order beyond inside high over =
         abs-sample-le signal 100000000 j trace (omega (arith, ints)) (omega (arith, inside, within)),
       );
       crest = λ rises falls. is.crest rises (omega (arith, falls, inside));
-      whole = λ _. (refl, refl);
+      whole = λ _. refl;
       over = λ _. twice-not_negative signal part.start j beyond (omega (arith, inside, within)) over;
     }
 

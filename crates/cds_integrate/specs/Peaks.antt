@@ -18,9 +18,13 @@ abbrev pub with_before : Option Measured → List Measured → List Found
 with_before before [] = []
 with_before before (part ∷ parts) = record { before = before; part = part } ∷ with_before (Some part) parts
 
+-- those of parts that aren't rejected
+abbrev pub kept_of : Signal → Method → List Found → List Found
+kept_of signal method parts = filter (λ found. not (is_rejected signal method found.part)) parts
+
 -- the parts of a cluster that aren't rejected
 abbrev pub accepted : Signal → Method → List Measured → List Found
-accepted signal method parts = filter (λ found. not (is_rejected signal method found.part)) (with_before None parts)
+accepted signal method parts = kept_of signal method (with_before None parts)
 
 -- the height of a part's left end above its line, times the line's span
 abbrev pub boundary_height : Signal → Measured → ℤ

@@ -6,7 +6,7 @@ use Rattle.cds_trace.specs.Signal.{Signal}
 use Rattle.cds_area.specs.Area.{span, height_by_span}
 use Rattle.cds_base.specs.declared.cluster.Part.{Part}
 use Rattle.cds_events.specs.Standing.{IsCrest, IsPart}
-use Rattle.cds_integrate.specs.Lines.{first_behind}
+use Rattle.cds_integrate.specs.Lines.{chord, first_behind}
 use Rattle.cds_integrate.specs.declared.shapes.Shape.{Shape}
 use Rattle.cds_integrate.specs.declared.measures.Measured.{Measured}
 use Rattle.cds_integrate.specs.declared.found.Found.{Found}
@@ -24,7 +24,7 @@ pub record IsShape (signal : Signal) (shape : Shape) : Type 0 where
   pub levels : (unsigned_abs shape.line.from_y ≤ 100000000) × (unsigned_abs shape.line.to_y ≤ 100000000)
   pub crest : shape.start < shape.apex → shape.apex < shape.end → IsCrest signal shape.apex
   -- a rider lies over the whole of its line, and nowhere under it
-  pub whole : shape.rider ≡ true → (shape.line.from ≡ shape.start) × (shape.line.to ≡ shape.end)
+  pub whole : shape.rider ≡ true → shape.line ≡ chord signal shape.start shape.end
   pub over : shape.rider ≡ true → pos 0 ≤ℤ twice_whole_area signal shape.line
 
 -- the line of a part reaches as far as its area goes

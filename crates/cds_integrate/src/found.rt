@@ -1,6 +1,5 @@
-ghost use Rattle.std.specs.Prelude.{◌≡◌, ◌++◌, ◌+◌, ◌≤◌, ℕ, All, IfSome, OnOk, not};
-ghost use Rattle.std.specs.List.{filter};
-ghost use Rattle.cds_integrate.specs.Peaks.{with_before, accepted};
+ghost use Rattle.std.specs.Prelude.{◌≡◌, ◌++◌, [], ◌∷◌, All, IfSome, OnOk};
+ghost use Rattle.cds_integrate.specs.Peaks.{kept_of, accepted};
 ghost use Rattle.cds_integrate.specs.Standing.{IsMeasured, IsFound};
 
 use crate::measures::{Measured, is_rejected};
@@ -13,6 +12,26 @@ use cds_trace::Trace;
 pub(crate) struct Found {
     pub before: Option<Measured>,
     pub part: Measured,
+}
+
+/// Puts a part behind those found so far where it isn't rejected.
+fn add_part(
+    found: &mut Vec<Found>,
+    one: Found,
+    trace: &Trace,
+    method: &Method,
+) -> Result<(), NoMemory>
+    requires part { IsMeasured trace.now one.part }
+    requires before { IfSome one.before (IsMeasured trace.now) }
+    requires kept { All (IsFound trace.now method.now) found.old.items }
+    ensures value { OnOk result (found.new.items ≡ found.old.items ++ kept_of trace.now method.now (one ∷ [])) }
+    ensures kept { All (IsFound trace.now method.now) found.new.items }
+{
+    if is_rejected(one.part, trace, method) {
+        return Ok(());
+    }
+    found.push(one)?;
+    Ok(())
 }
 
 /// Puts the parts of a cluster that aren't rejected behind those found so far.
@@ -29,12 +48,11 @@ pub(crate) fn add_accepted(
 {
     let mut before = None;
     for part in parts {
-        if !is_rejected(*part, trace, method) {
-            found.push(Found {
-                before,
-                part: *part,
-            })?;
-        }
+        let one = Found {
+            before,
+            part: *part,
+        };
+        add_part(found, one, trace, method)?;
         before = Some(*part);
     }
     Ok(())

@@ -1,4 +1,4 @@
-ghost use Rattle.std.specs.Prelude.{◌≡◌, ◌+◌, ◌-◌, ◌*◌, ◌^◌, ◌<◌, ◌≤◌, ℕ, pos, ◌*ℤ◌, ◌≤ℤ◌, All, IfOk, int_lt, length, unsigned_abs};
+ghost use Rattle.std.specs.Prelude.{◌≡◌, ◌+◌, ◌-◌, ◌*◌, ◌^◌, ◌<◌, ◌≤◌, ℕ, pos, ◌+ℤ◌, ◌-ℤ◌, ◌*ℤ◌, ◌≤ℤ◌, All, IfOk, int_le, int_lt, ◌||◌, length, unsigned_abs, if◌then◌else◌};
 ghost use Rattle.std.specs.Vec.{vec_len};
 ghost use Rattle.cds_area.specs.Area.{span};
 ghost use Rattle.cds_integrate.specs.Measures.{area_end, gross_area, gross_areas, twice_whole_area, twice_areas, riders, measure, measured, reported_area, is_rejected};
@@ -56,6 +56,8 @@ fn gross_area<L: Ledger>(shape: Shape, later: &[Shape], trace: &Trace, steps: &m
     ensures counted { steps.new ≡ steps.old + 4 }
 {
     let end = area_end(shape, later);
+    let samples = trace.len();
+    prove!(shape.line.to < samples);
     area(shape.start, end, &shape.line, trace, steps).num
 }
 
@@ -86,9 +88,20 @@ fn twice_whole_area(rider: Shape, gross: i128, trace: &Trace) -> i128
     requires whole { gross ≡ twice_whole_area trace.now rider.line *ℤ pos (span rider.line) }
     requires over { pos 0 ≤ℤ twice_whole_area trace.now rider.line }
     requires small { unsigned_abs gross < 2 ^ 66 }
-    ensures { result ≡ twice_whole_area trace.now rider.line }
+    ensures value { result ≡ twice_whole_area trace.now rider.line }
+    ensures least { pos 0 ≤ℤ result }
+    ensures small { unsigned_abs result < 2 ^ 66 }
 {
     (gross.unsigned_abs() / u128::from(span(rider.line))) as i128
+}
+
+/// A sum of areas with one more.
+fn added(sum: i128, more: i128) -> i128
+    requires sum { unsigned_abs sum ≤ 2 ^ 98 }
+    requires more { unsigned_abs more < 2 ^ 66 }
+    ensures { result ≡ sum +ℤ more }
+{
+    sum + more
 }
 
 /// Twice the areas of the riders directly ahead, from the gross areas of the parts there.
@@ -106,9 +119,35 @@ fn taken(later: &[Shape], gross: &[i128], trace: &Trace) -> i128
         if !later[k].rider {
             return sum;
         }
-        sum += twice_whole_area(later[k], gross[k], trace);
+        sum = added(sum, twice_whole_area(later[k], gross[k], trace));
     }
     sum
+}
+
+/// Twice the areas of the riders of a part, from the gross areas of the parts behind it. A rider has none.
+fn taken_from(shape: Shape, later: &[Shape], gross: &[i128], trace: &Trace) -> i128
+    requires row { (start : ℕ) × (end : ℕ) × InRow trace.now start later.now end }
+    requires gross { gross.now ≡ gross_areas trace.now later.now }
+    requires small { All (λ a. unsigned_abs a < 2 ^ 66) gross.now }
+    requires few { length later.now < 2 ^ 32 }
+    ensures value { result ≡ (if shape.rider then pos 0 else twice_areas trace.now (riders later.now)) }
+    ensures least { pos 0 ≤ℤ result }
+    ensures small { unsigned_abs result ≤ 2 ^ 66 * length later.now }
+{
+    if shape.rider {
+        return 0;
+    }
+    taken(later, gross, trace)
+}
+
+/// A gross area without what is taken out of it, which stands over 1 and not over the span of the line.
+fn without(gross: i128, taken: i128, span: u32) -> i128
+    requires gross { unsigned_abs gross < 2 ^ 66 }
+    requires taken { unsigned_abs taken ≤ 2 ^ 98 }
+    requires span { span ≤ 100000 }
+    ensures { result ≡ gross -ℤ taken *ℤ pos span }
+{
+    gross - taken * i128::from(span)
 }
 
 /// A part with its area and its height, from its gross area and those of the parts behind it. One step.
@@ -121,25 +160,51 @@ fn measure<L: Ledger>(
     steps: &mut Steps<L>,
 ) -> Measured
     requires shape { IsShape trace.now shape }
-    requires row { (start : ℕ) × (end : ℕ) × InRow trace.now start later.now end }
+    requires reaches { Reaches shape later.now }
+    requires row { (end : ℕ) × InRow trace.now shape.reach later.now end }
     requires gross { gross ≡ gross_area trace.now shape later.now }
     requires later_gross { later_gross.now ≡ gross_areas trace.now later.now }
     requires gross_small { unsigned_abs gross < 2 ^ 66 }
     requires later_small { All (λ a. unsigned_abs a < 2 ^ 66) later_gross.now }
     requires few { length later.now < 2 ^ 32 }
     ensures value { result ≡ measure trace.now shape later.now }
+    ensures measured { IsMeasured trace.now result }
     ensures counted { steps.new ≡ steps.old + 1 }
 {
-    let riders = if shape.rider {
-        0
-    } else {
-        taken(later, later_gross, trace)
-    };
+    let samples = trace.len();
+    prove!(shape.line.to < samples);
+    let taken = taken_from(shape, later, later_gross, trace);
     Measured {
         shape,
-        area: gross - riders * i128::from(span(shape.line)),
+        area: without(gross, taken, span(shape.line)),
         height: height(shape.apex, &shape.line, trace, steps).num,
     }
+}
+
+/// Parts in a row with their areas and heights, from their gross areas. One step for each.
+fn measure_each<L: Ledger>(
+    alloc: Global,
+    shapes: &[Shape],
+    gross: &[i128],
+    trace: &Trace,
+    steps: &mut Steps<L>,
+) -> Result<Vec<Measured>, NoMemory>
+    requires row { (start : ℕ) × (end : ℕ) × InRow trace.now start shapes.now end }
+    requires few { length shapes.now < 2 ^ 32 }
+    requires gross { gross.now ≡ gross_areas trace.now shapes.now }
+    requires whole { length gross.now ≡ length shapes.now }
+    requires small { All (λ a. unsigned_abs a < 2 ^ 66) gross.now }
+    ensures value { IfOk result (λ v. v.items ≡ measured trace.now shapes.now) }
+    ensures measured { IfOk result (λ v. All (IsMeasured trace.now) v.items) }
+    ensures least { steps.old ≤ steps.new }
+    ensures most { steps.new ≤ steps.old + length shapes.now }
+{
+    let mut parts = Vec::with_capacity(alloc, shapes.len())?;
+    for k in 0..shapes.len() {
+        let (later, later_gross) = (&shapes[k + 1..], &gross[k + 1..]);
+        parts.push(measure(shapes[k], later, gross[k], later_gross, trace, steps))?;
+    }
+    Ok(parts)
 }
 
 /// Parts in a row with their areas and heights. Five steps for each.
@@ -149,18 +214,16 @@ pub(crate) fn measure_all<L: Ledger>(
     trace: &Trace,
     steps: &mut Steps<L>,
 ) -> Result<Vec<Measured>, NoMemory>
-    requires { (start : ℕ) × (end : ℕ) × InRow trace.now start shapes.now end }
+    requires row { (start : ℕ) × (end : ℕ) × InRow trace.now start shapes.now end }
+    requires few { length shapes.now < 2 ^ 32 }
     ensures value { IfOk result (λ v. v.items ≡ measured trace.now shapes.now) }
     ensures measured { IfOk result (λ v. All (IsMeasured trace.now) v.items) }
     ensures least { steps.old ≤ steps.new }
     ensures most { steps.new ≤ steps.old + 5 * length shapes.now }
 {
-    let gross = gross_areas(alloc, shapes, trace, steps)?;
-    let mut parts = Vec::with_capacity(alloc, shapes.len())?;
-    for k in 0..shapes.len() {
-        let (later, later_gross) = (&shapes[k + 1..], &gross[k + 1..]);
-        parts.push(measure(shapes[k], later, gross[k], later_gross, trace, steps))?;
-    }
+    let areas = gross_areas(alloc, shapes, trace, steps)?;
+    let gross = areas.as_slice();
+    let parts = measure_each(alloc, shapes, gross, trace, steps)?;
     Ok(parts)
 }
 
@@ -206,13 +269,20 @@ fn is_low(part: Measured, method: &Method) -> bool
     part.height < i128::from(u64::from(method.min_height) * u64::from(span(part.shape.line)))
 }
 
+/// Whether a part's area or height isn't positive.
+fn is_flat(part: Measured) -> bool
+    ensures { result ≡ (int_le part.area (pos 0) || int_le part.height (pos 0)) }
+{
+    part.area <= 0 || part.height <= 0
+}
+
 /// Whether a part is rejected: its area or height isn't positive, or its reported area or its exact height is below the
 /// method's least.
 pub(crate) fn is_rejected(part: Measured, trace: &Trace, method: &Method) -> bool
     requires { IsMeasured trace.now part }
     ensures { result ≡ is_rejected trace.now method.now part }
 {
-    if part.area <= 0 || part.height <= 0 {
+    if is_flat(part) {
         return true;
     }
     reported_area(part, trace) < method.min_area || is_low(part, method)

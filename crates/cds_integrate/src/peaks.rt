@@ -1,4 +1,4 @@
-ghost use Rattle.std.specs.Prelude.{◌≡◌, ◌+◌, ◌-◌, ◌*◌, ◌^◌, ℕ, ◌<◌, ◌≤◌, IfOk, IfSome, All, Option, length, pos, ◌<ℤ◌, unsigned_abs};
+ghost use Rattle.std.specs.Prelude.{◌≡◌, ◌+◌, ◌-◌, ◌*◌, ◌^◌, ℕ, ◌<◌, ◌≤◌, IfOk, IfSome, All, Option, length, pos, ◌<ℤ◌, ◌&&◌, not, int_lt, unsigned_abs};
 ghost use Rattle.cds_area.specs.Area.{IsRatio, span, height_by_span};
 ghost use Rattle.cds_integrate.specs.Peaks.{boundary_height, is_valley_between, neighbour, IsValley, IsPeak, ArePeaks, component_of};
 ghost use Rattle.cds_integrate.specs.Row.{IsSound, StandsIn};
@@ -8,6 +8,7 @@ ghost use Rattle.cds_rules.specs.declared.limits.TheConstants.{MOST_COMPONENTS};
 use crate::found::Found;
 use crate::measures::{Measured, area_ratio, height_ratio, is_rejected, reported_area};
 use crate::naming::component_of;
+use crate::shapes::Shape;
 use cds_area::height;
 use cds_base::{NoMemory, Peak, Ratio, Steps};
 use cds_figures::crossings;
@@ -23,7 +24,38 @@ const HALF: u8 = 10;
 /// One twentieth of the height.
 const TWENTIETH: u8 = 1;
 
-/// The heights of the part before a part and of the boundary of the two, where that is a valley. One step at most.
+/// Whether neither of two parts is a rider.
+fn are_plain(before: Shape, shape: Shape) -> bool
+    ensures { result ≡ (not before.rider && not shape.rider) }
+{
+    !before.rider && !shape.rider
+}
+
+/// Whether a height is above the line.
+fn is_above(height: i128) -> bool
+    ensures { result ≡ int_lt (pos 0) height }
+{
+    0 < height
+}
+
+/// Whether the boundary of two parts, of this height above the line of the second, is a valley of that one.
+fn is_valley_between(
+    before: Measured,
+    part: Measured,
+    boundary: i128,
+    trace: &Trace,
+    method: &Method,
+) -> bool
+    requires before { IsMeasured trace.now before }
+    requires boundary { boundary ≡ boundary_height trace.now part }
+    ensures { result ≡ is_valley_between trace.now method.now before part }
+{
+    let kept = !is_rejected(before, trace, method);
+    let above = is_above(boundary);
+    are_plain(before.shape, part.shape) && (kept && above)
+}
+
+/// The heights of the part before a part and of the boundary of the two, where that is a valley. One step.
 fn valley_behind<L: Ledger>(
     before: Measured,
     part: Measured,
@@ -36,17 +68,14 @@ fn valley_behind<L: Ledger>(
     ensures value { IsValley trace.now part (neighbour trace.now method.now (Option.Some before) part) result }
     ensures small { IfSome result (λ heights. unsigned_abs heights.0.num < 2 ^ 60) }
     ensures boundary { IfSome result (λ heights. (unsigned_abs heights.1.num < 2 ^ 60) × (pos 0 <ℤ heights.1.num)) }
-    ensures least { steps.old ≤ steps.new }
-    ensures most { steps.new ≤ steps.old + 1 }
+    ensures counted { steps.new ≡ steps.old + 1 }
 {
-    if before.shape.rider || part.shape.rider || is_rejected(before, trace, method) {
-        return None;
-    }
     let boundary = height(part.shape.start, &part.shape.line, trace, steps);
-    if boundary.num <= 0 {
-        return None;
+    if is_valley_between(before, part, boundary.num, trace, method) {
+        Some((height_ratio(before), boundary))
+    } else {
+        None
     }
-    Some((height_ratio(before), boundary))
 }
 
 /// The same, where a part stands before it.
@@ -69,7 +98,7 @@ fn valley_of<L: Ledger>(
     valley_behind(before, found.part, trace, method, steps)
 }
 
-/// What a row says of a part that isn't rejected, and of the component that it is named. At most seven steps for each of
+/// What a row says of a part that isn't rejected, and of the component that it is named. At most five steps for each of
 /// its samples but one.
 fn peak_of<L: Ledger>(
     found: Found,
@@ -87,6 +116,8 @@ fn peak_of<L: Ledger>(
 {
     let part = found.part;
     let shape = part.shape;
+    let samples = trace.len();
+    prove!(shape.line.to < samples);
     let half = crossings(
         shape.start,
         shape.apex,

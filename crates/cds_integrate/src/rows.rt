@@ -1,9 +1,9 @@
 ghost use Rattle.std.specs.Prelude.{◌≡◌, ◌+◌, ◌-◌, ◌*◌, ◌++◌, ◌<◌, ◌≤◌, All, IfOk, OnOk, length};
 ghost use Rattle.std.specs.List.{flat_map};
-ghost use Rattle.cds_detect.specs.Raw.{StandFrom};
+ghost use Rattle.cds_detect.specs.Raw.{raw_peaks_of};
+ghost use Rattle.cds_detect.specs.Settings.{settings_of};
 ghost use Rattle.cds_events.specs.Standing.{IsCluster, ClustersFrom, RawFrom};
-ghost use Rattle.cds_integrate.specs.Shapes.{shapes_of};
-ghost use Rattle.cds_integrate.specs.Row.{events_of, found_in, peaks_in, StandsIn, IsRow};
+ghost use Rattle.cds_integrate.specs.Row.{events_of, found_in, found_of, peaks_in, AreNamed, IsSound, StandsIn, IsRow};
 ghost use Rattle.cds_integrate.specs.Standing.{IsFound, widths};
 
 use crate::found::{Found, add_accepted};
@@ -12,7 +12,7 @@ use crate::naming::{apex_times, windows_of};
 use crate::peaks::peaks_of;
 use crate::row_part::RowPart;
 use crate::shapes::shapes_of;
-use cds_base::{Cluster, Event, NoMemory, Steps};
+use cds_base::{Cluster, Event, NoMemory, Peak, RawPeak, Steps};
 use cds_detect::{Raw, raw_peaks};
 use cds_events::arrange;
 use cds_names::name_peaks;
@@ -40,9 +40,14 @@ fn add_found<L: Ledger>(
     ensures least { steps.old ≤ steps.new }
     ensures most { steps.new + 11 * cluster.now.start ≤ steps.old + 11 * cluster.now.end }
 {
-    let shapes = shapes_of(alloc, cluster, trace, method, manual, steps)?;
-    let parts = measure_all(alloc, &shapes, trace, steps)?;
-    add_accepted(found, &parts, trace, method)
+    let samples = trace.len();
+    prove!(cluster.end < samples);
+    let row = shapes_of(alloc, cluster, trace, method, manual, steps)?;
+    let shapes = row.as_slice();
+    let measured = measure_all(alloc, shapes, trace, steps)?;
+    let parts = measured.as_slice();
+    add_accepted(found, parts, trace, method)?;
+    Ok(())
 }
 
 /// The parts of clusters that aren't rejected.
@@ -61,11 +66,45 @@ fn found_of<L: Ledger>(
     ensures least { steps.old ≤ steps.new }
     ensures most { steps.new + 11 ≤ steps.old + 11 * length trace.now.samples }
 {
+    let samples = trace.len();
+    prove!(1 < samples);
     let mut found = Vec::new(alloc);
     for cluster in clusters {
         add_found(alloc, &mut found, cluster, trace, method, manual, steps)?;
     }
     Ok(found)
+}
+
+/// The peaks of the row of these raw peaks, which are those of the trace. At most 19 steps for each sample of the trace.
+fn peaks_from<L: Ledger>(
+    alloc: Global,
+    raw: &[RawPeak],
+    trace: &Trace,
+    method: &Method,
+    manual: &[Event],
+    steps: &mut Steps<L>,
+) -> Result<Vec<Peak>, NoMemory>
+    requires stand { RawFrom trace.now 0 raw.now }
+    requires raw { raw.now ≡ raw_peaks_of trace.now (settings_of method.now manual.now) }
+    ensures value { IfOk result (λ v. AreNamed trace.now method.now (found_of trace.now method.now manual.now) v.items) }
+    ensures sound { IfOk result (λ v. All IsSound v.items) }
+    ensures stand { IfOk result (λ v. All (StandsIn trace.now) v.items) }
+    ensures least { steps.old ≤ steps.new }
+    ensures most { steps.new ≤ steps.old + 19 * length trace.now.samples }
+{
+    let arranged = arrange(alloc, raw, trace, method, manual, steps)?;
+    let clusters = arranged.as_slice();
+    let parts = found_of(alloc, clusters, trace, method, manual, steps)?;
+    let found = parts.as_slice();
+    let samples = trace.len();
+    prove!(1 < samples);
+    let sought = windows_of(alloc, method)?;
+    let windows = sought.as_slice();
+    let apexes = apex_times(alloc, found, trace)?;
+    let times = apexes.as_slice();
+    let names = name_peaks(alloc, windows, times)?;
+    let peaks = peaks_of(alloc, found, &names, trace, method, steps)?;
+    Ok(peaks)
 }
 
 /// The row of a trace under a method and the manual events of a row, which stand behind the method's events.
@@ -92,16 +131,14 @@ pub fn row<L: Ledger>(
     ensures least { steps.old + 1 ≤ steps.new }
     ensures most { steps.new ≤ steps.old + 32 * length trace.now.samples }
 {
+    let samples = trace.len();
+    prove!(1 < samples);
     let _first = trace.at(0, steps);
-    let raw = match raw_peaks(alloc, trace, method, manual, steps)? {
+    let list = match raw_peaks(alloc, trace, method, manual, steps)? {
         Raw::TooMany(number) => return Ok(RowPart::of_too_many(number)),
-        Raw::List(raw) => raw,
+        Raw::List(list) => list,
     };
-    let clusters = arrange(alloc, raw.as_slice(), trace, method, manual, steps)?;
-    let found = found_of(alloc, clusters.as_slice(), trace, method, manual, steps)?;
-    let windows = windows_of(alloc, method)?;
-    let times = apex_times(alloc, &found, trace)?;
-    let names = name_peaks(alloc, &windows, &times)?;
-    let peaks = peaks_of(alloc, &found, &names, trace, method, steps)?;
+    let raw = list.as_slice();
+    let peaks = peaks_from(alloc, raw, trace, method, manual, steps)?;
     Ok(RowPart::of_peaks(peaks))
 }

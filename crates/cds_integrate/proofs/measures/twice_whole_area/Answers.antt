@@ -21,4 +21,9 @@ returns c =
     rw (whole, width) (exact-div (twice_whole_area signal line) (span line) some) in
     let size = simp to_z-of_z at c.unsigned_abs.ensures.value in
     let low : c.unsigned_abs.result / c.from.result < 2 ^ 127 = omega (arith, div-le_self c.unsigned_abs.result c.from.result, size, c.requires.small) in
-    to_z_pos w128 (c.unsigned_abs.result / c.from.result) low ∙ (ap pos exact ∙ size-of (twice_whole_area signal line) c.requires.over)
+    let value = to_z_pos w128 (c.unsigned_abs.result / c.from.result) low ∙ (ap pos exact ∙ size-of (twice_whole_area signal line) c.requires.over) in
+    record {
+      value = value;
+      least = rw value c.requires.over;
+      small = rw (to_z_pos w128 (c.unsigned_abs.result / c.from.result) low) (omega (arith, div-le_self c.unsigned_abs.result c.from.result, size, c.requires.small));
+    }

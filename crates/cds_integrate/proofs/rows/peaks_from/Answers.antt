@@ -1,0 +1,28 @@
+use Rattle.std.proofs.Common.{◌≡◌, ℕ, ◌+◌, ◌*◌, ◌<◌, ◌≤◌, ◌++◌, List, map, length, sym, ◌∙◌, ap, arith, rules}
+use Rattle.std.specs.List.{flat_map}
+use Rattle.cds_base.specs.declared.cluster.Cluster.{Cluster}
+use Rattle.cds_base.specs.declared.event.Event.{Event}
+use Rattle.cds_base.specs.declared.peak.RawPeak.{RawPeak}
+use Rattle.cds_events.specs.Arrangement.{gap_of, clusters_of}
+use Rattle.cds_integrate.specs.Row.{events_of, found_in, found_of, windows_of, apex_time}
+use Rattle.cds_integrate.specs.declared.found.Found.{Found}
+use Rattle.cds_integrate.proofs.FoundLaws.{found-count}
+use Rattle.cds_integrate.proofs.rows.peaks_from.Goals as goal
+
+pub returns-clause-value : goal.returns-clause-value
+returns-clause-value g c =
+    let signal = c.args.trace.now in
+    let method = c.args.method.now in
+    let manual : List Event = c.args.manual.now in
+    let f : Cluster → List Found = found_in signal method (events_of method manual) in
+    let arranged : List RawPeak → List Cluster = clusters_of signal (gap_of method) (events_of method manual) in
+    let clusters = c.as_slice-clusters.ensures ∙ (c.in_ok-arranged.ensures.value ∙ ap arranged c.requires.raw) in
+    let found : c.as_slice-found.result.now ≡ found_of signal method manual = c.as_slice-found.ensures.value ∙ (c.in_ok-parts.ensures.value ∙ ap (flat_map f) clusters) in
+    let windows : c.as_slice-windows.result.now ≡ windows_of method = c.as_slice-windows.ensures.value ∙ c.in_ok-sought.ensures.value in
+    let times : c.as_slice-times.result.now ≡ map (apex_time signal) (found_of signal method manual) =
+    c.as_slice-times.ensures.value ∙ (c.in_ok-apexes.ensures.value ∙ ap (map (apex_time signal)) found) in
+    record {
+      naming = c.in_ok-names.names;
+      unblocked = rw (windows, times) at c.in_ok-names.ensures.unblocked;
+      peaks_are = rw found at c.in_ok-peaks.ensures.value;
+    }
