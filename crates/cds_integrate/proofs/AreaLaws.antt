@@ -1,12 +1,12 @@
 -- Gross areas of parts in a row, those of their riders, and their bounds.
-use Rattle.std.proofs.Common.{◌≡◌, ℕ, zero, suc, ◌+◌, ◌-◌, ◌*◌, ◌^◌, ◌<◌, ◌≤◌, Bool, true, false, List, [], ◌∷◌, length, drop, get_or, ℤ, pos, negsuc, ◌+ℤ◌, ◌-ℤ◌, ◌*ℤ◌, ◌≤ℤ◌, inl, inr, refl, sym, ap, ◌∙◌, arith}
+use Rattle.std.proofs.Common.{◌≡◌, ℕ, zero, suc, ◌+◌, ◌-◌, ◌*◌, ◌^◌, ◌<◌, ◌≤◌, true, false, List, [], ◌∷◌, length, drop, get_or, ℤ, pos, negsuc, ◌+ℤ◌, ◌-ℤ◌, ◌*ℤ◌, ◌≤ℤ◌, inl, inr, refl, sym, ap, ◌∙◌, arith}
 use Rattle.std.specs.Prelude.{unsigned_abs, if◌then◌else◌}
 use Rattle.std.specs.List.{fold}
 use Rattle.std.proofs.lemmas.Bool.{cases_Bool}
 use Rattle.std.proofs.lemmas.Int.{ints}
 use Rattle.std.proofs.Math.Nat.{mul-le-mul_right}
-use Rattle.cds_trace.specs.Signal.{Signal, IsTrace, sample_at}
-use Rattle.cds_area.specs.Area.{span, area_by_double_span}
+use Rattle.cds_trace.specs.Signal.{Signal, IsTrace}
+use Rattle.cds_area.specs.Area.{span}
 use Rattle.cds_area.proofs.AreaLaws.{area-whole, abs-area-le, abs-sample-le}
 use Rattle.cds_integrate.specs.declared.shapes.Shape.{Shape}
 use Rattle.cds_integrate.specs.Lines.{chord}

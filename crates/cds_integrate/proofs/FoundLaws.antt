@@ -1,6 +1,6 @@
 -- Parts that aren't rejected, one at a time and with their widths, and what they come from.
-use Rattle.std.proofs.Common.{◌≡◌, ℕ, zero, suc, ◌+◌, ◌-◌, ◌*◌, ◌<◌, ◌≤◌, Bool, true, false, not, List, [], ◌∷◌, ◌++◌, All, length, drop, get_or, Option, Some, None, ℤ, pos, inl, inr, refl, sym, ap, ◌∙◌, arith, append_assoc, drop-cons}
-use Rattle.std.specs.List.{filter, sum_by, flat_map}
+use Rattle.std.proofs.Common.{◌≡◌, ℕ, suc, ◌+◌, ◌-◌, ◌<◌, ◌≤◌, true, false, List, [], ◌∷◌, ◌++◌, All, length, drop, get_or, Option, Some, None, pos, inl, inr, refl, sym, ap, ◌∙◌, arith, append_assoc, drop-cons}
+use Rattle.std.specs.List.{flat_map}
 use Rattle.std.proofs.lemmas.Bool.{cases_Bool}
 use Rattle.std.proofs.lemmas.List.Sums.{sum_by-append}
 use Rattle.cds_base.specs.declared.cluster.Cluster.{Cluster}
@@ -16,7 +16,7 @@ use Rattle.cds_integrate.specs.declared.measures.Measured.{Measured}
 use Rattle.cds_integrate.specs.declared.found.Found.{Found}
 use Rattle.cds_integrate.specs.Measures.{measure, measured, is_rejected}
 use Rattle.cds_integrate.specs.Peaks.{with_before, kept_of}
-use Rattle.cds_integrate.specs.Standing.{IsShape, InRow, IsMeasured, IsFound, widths}
+use Rattle.cds_integrate.specs.Standing.{InRow, IsFound, widths}
 use Rattle.cds_integrate.proofs.RowLaws.{no_shape}
 
 -- one more part
@@ -87,24 +87,26 @@ unfolding least first
 raw-from signal at [] s = tt
 raw-from signal at (p ∷ ps) s = (record { follows = s.0.follows; rises = s.0.rises; falls = s.0.falls; apex = s.0.apex; ends = s.0.ends }, raw-from signal p.end ps s.1)
 
--- a cluster to stand where a list has none
-abbrev pub no_cluster : Cluster
-no_cluster = record { start = 0; end = 0; forced = false; parts = [] }
-
 -- a cluster that begins at a sample or behind it begins at the first sample or behind it
 pub cluster-anywhere : (signal : Signal) (at : ℕ) (cluster : Cluster) → IsCluster signal at cluster → IsCluster signal 0 cluster
 cluster-anywhere signal at cluster is = record { follows = omega arith; some = is.some; tiled = is.tiled; parts = is.parts; begins = is.begins; ends = is.ends }
 
 -- clusters from one on
-pub clusters-at : (signal : Signal) (clusters : List Cluster) (i at : ℕ) → i < length clusters → ClustersFrom signal at (drop i clusters) →
-    IsCluster signal at (get_or clusters i no_cluster) × ClustersFrom signal (get_or clusters i no_cluster).end (drop (i + 1) clusters)
-clusters-at signal clusters i at below from =
+pub clusters-at : (signal : Signal) (clusters : List Cluster) (d : Cluster) (i at : ℕ) → i < length clusters → ClustersFrom signal at (drop i clusters) →
+    IsCluster signal at (get_or clusters i d) × ClustersFrom signal (get_or clusters i d).end (drop (i + 1) clusters)
+clusters-at signal clusters d i at below from =
     let e : i + 1 ≡ suc i = omega arith in
-    rw e (rw (drop-cons clusters i no_cluster below) at from)
+    rw e (rw (drop-cons clusters i d below) at from)
 
 -- what the clusters from one on give
-pub flat-at : (f : Cluster → List Found) (clusters : List Cluster) (i : ℕ) (old all : List Found) → i < length clusters →
-    old ++ flat_map f (drop i clusters) ≡ all → (old ++ f (get_or clusters i no_cluster)) ++ flat_map f (drop (i + 1) clusters) ≡ all
-flat-at f clusters i old all below is =
+pub flat-at : (f : Cluster → List Found) (clusters : List Cluster) (d : Cluster) (i : ℕ) (old all : List Found) → i < length clusters →
+    old ++ flat_map f (drop i clusters) ≡ all → (old ++ f (get_or clusters i d)) ++ flat_map f (drop (i + 1) clusters) ≡ all
+flat-at f clusters d i old all below is =
     let e : i + 1 ≡ suc i = omega arith in
-    rw e (append_assoc old (f (get_or clusters i no_cluster)) (flat_map f (drop (suc i) clusters)) ∙ (ap (λ xs. old ++ flat_map f xs) (sym (drop-cons clusters i no_cluster below)) ∙ is))
+    rw e (append_assoc old (f (get_or clusters i d)) (flat_map f (drop (suc i) clusters)) ∙ (ap (λ xs. old ++ flat_map f xs) (sym (drop-cons clusters i d below)) ∙ is))
+
+-- the same of an item of theirs
+pub flat-on : (f : Cluster → List Found) (clusters : List Cluster) (item : Cluster) (i : ℕ) (old all : List Found) → i < length clusters →
+    item ≡ get_or clusters i item → old ++ flat_map f (drop i clusters) ≡ all → (old ++ f item) ++ flat_map f (drop (i + 1) clusters) ≡ all
+flat-on f clusters item i old all below at is =
+    ap (λ c. (old ++ f c) ++ flat_map f (drop (i + 1) clusters)) at ∙ flat-at f clusters item i old all below is

@@ -1,7 +1,7 @@
 -- Where the nodes of a cluster lie: inside none of its parts. And the lines between them.
-use Rattle.std.proofs.Common.{◌≡◌, ℕ, zero, suc, ◌+◌, ◌-◌, ◌<◌, ◌≤◌, ◌⊎◌, inl, inr, Bool, true, false, not, ◌||◌, List, [], ◌∷◌, ◌++◌, map, drop, length, get_or, refl, sym, ap, subst, ◌∙◌, arith}
+use Rattle.std.proofs.Common.{◌≡◌, ℕ, zero, suc, ◌+◌, ◌-◌, ◌<◌, ◌≤◌, inl, inr, Bool, true, false, ◌||◌, List, [], ◌∷◌, ◌++◌, map, length, get_or, refl, sym, ap, subst, ◌∙◌, arith}
 use Rattle.std.specs.Prelude.{nat_lt, nat_le, ◌==◌, if◌then◌else◌}
-use Rattle.std.specs.List.{fold, find, list_any}
+use Rattle.std.specs.List.{fold, list_any}
 use Rattle.std.proofs.lemmas.Bool.{cases_Bool}
 use Rattle.std.proofs.lemmas.Grind.{common_steps}
 use Rattle.std.proofs.lemmas.List.{map-append}
@@ -10,10 +10,10 @@ use Rattle.cds_base.specs.declared.cluster.Cluster.{Cluster}
 use Rattle.cds_base.specs.Tiles.{Tiles}
 use Rattle.cds_trace.specs.Signal.{Signal}
 use Rattle.cds_baseline.specs.Numbers.{passing}
-use Rattle.cds_baseline.specs.Nodes.{sample_of, is_fixed, is_node, node_samples}
+use Rattle.cds_baseline.specs.Nodes.{sample_of, is_node}
 use Rattle.cds_baseline.specs.Cluster.{is_valley, valleys, inner, cluster_points, fixed_points, cluster_nodes}
-use Rattle.cds_baseline.proofs.PointLaws.{IsReady, cluster-ready, last-is}
-use Rattle.cds_integrate.specs.Lines.{last_up_to, first_behind}
+use Rattle.cds_baseline.proofs.PointLaws.{cluster-ready, last-is}
+use Rattle.cds_integrate.specs.Lines.{first_behind}
 use Rattle.cds_integrate.proofs.PartLaws.{IsClear, tiles-order, clear-low, clear-high}
 
 -- P holds of each number of a list

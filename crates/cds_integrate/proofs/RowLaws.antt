@@ -1,11 +1,10 @@
 -- Parts in a row and their riders, one at a time.
-use Rattle.std.proofs.Common.{◌≡◌, ℕ, zero, suc, ◌+◌, ◌-◌, ◌*◌, ◌<◌, ◌≤◌, Bool, true, false, List, All, [], ◌∷◌, ◌++◌, length, drop, get_or, ℤ, pos, ◌+ℤ◌, inl, inr, take, refl, ap, sym, ◌∙◌, arith, drop-cons, length-drop}
+use Rattle.std.proofs.Common.{◌≡◌, ℕ, zero, suc, ◌+◌, ◌-◌, ◌<◌, ◌≤◌, true, false, List, All, [], ◌∷◌, length, drop, get_or, pos, inl, inr, take, refl, ap, sym, ◌∙◌, arith, drop-cons, length-drop}
 use Rattle.std.proofs.lemmas.List.{take_all}
-use Rattle.std.specs.List.{fold}
 use Rattle.std.proofs.lemmas.Bool.{cases_Bool}
 use Rattle.cds_trace.specs.Signal.{Signal}
 use Rattle.cds_integrate.specs.declared.shapes.Shape.{Shape}
-use Rattle.cds_integrate.specs.Measures.{riders, reach_over, area_end, gross_area, gross_areas, twice_whole_area, twice_areas, measure, measured}
+use Rattle.cds_integrate.specs.Measures.{area_end, gross_area, gross_areas, measure, measured}
 use Rattle.cds_integrate.specs.Standing.{from_reach, IsShape, Reaches, InRow}
 
 -- one more rider

@@ -1,7 +1,7 @@
 -- How the parts of a cluster stand on their lines.
-use Rattle.std.proofs.Common.{◌≡◌, ℕ, zero, suc, ◌+◌, ◌-◌, ◌*◌, ◌<◌, ◌≤◌, ◌⊎◌, inl, inr, Bool, true, false, not, ◌&&◌, List, [], ◌∷◌, ◌++◌, map, length, All, ℤ, pos, negsuc, ◌+ℤ◌, ◌-ℤ◌, ◌*ℤ◌, ◌≤ℤ◌, ◌<ℤ◌, refl, sym, ap, ◌∙◌, arith}
+use Rattle.std.proofs.Common.{◌≡◌, ℕ, suc, ◌+◌, ◌-◌, ◌*◌, ◌<◌, ◌≤◌, inl, inr, Bool, true, false, not, ◌&&◌, List, [], ◌∷◌, map, length, All, ℤ, pos, negsuc, ◌*ℤ◌, ◌≤ℤ◌, refl, sym, arith}
 use Rattle.std.proofs.lemmas.List.{length-map}
-use Rattle.std.specs.Prelude.{slice_index_or, unsigned_abs, nat_lt, ◌==◌, if◌then◌else◌}
+use Rattle.std.specs.Prelude.{slice_index_or, nat_lt, ◌==◌}
 use Rattle.std.specs.List.{list_any}
 use Rattle.std.proofs.lemmas.Bool.{cases_Bool, and_parts}
 use Rattle.std.proofs.lemmas.Int.{ints}
@@ -13,17 +13,17 @@ use Rattle.cds_base.specs.declared.cluster.Part.{Part}
 use Rattle.cds_base.specs.declared.cluster.Cluster.{Cluster}
 use Rattle.cds_base.specs.Tiles.{Tiles}
 use Rattle.cds_trace.specs.Signal.{Signal, IsTrace, sample_at}
-use Rattle.cds_area.specs.Area.{span, height_by_span, area_by_double_span}
+use Rattle.cds_area.specs.Area.{span, height_by_span}
 use Rattle.cds_area.proofs.AreaLaws.{area-whole, area-not_negative, abs-sample-le}
 use Rattle.cds_baseline.specs.Chord.{chord_by_span, is_over}
 use Rattle.cds_baseline.specs.Cluster.{is_valley}
 use Rattle.cds_baseline.specs.Tangent.{tangent_sample}
 use Rattle.cds_events.specs.Standing.{IsPart, IsCluster}
 use Rattle.cds_integrate.specs.declared.shapes.Shape.{Shape}
-use Rattle.cds_integrate.specs.Lines.{chord, line_over, last_up_to, first_behind}
+use Rattle.cds_integrate.specs.Lines.{chord, last_up_to, first_behind}
 use Rattle.cds_integrate.specs.Shapes.{skims, is_covered, nodes_of, is_skimmed, is_rider, rider_shape, plain_shape, shape_of}
-use Rattle.cds_integrate.specs.Measures.{riders, area_end, twice_whole_area}
-use Rattle.cds_integrate.specs.Standing.{from_reach, IsOver, IsShape, Reaches, InRow}
+use Rattle.cds_integrate.specs.Measures.{twice_whole_area}
+use Rattle.cds_integrate.specs.Standing.{from_reach, IsOver, IsShape, InRow}
 use Rattle.cds_integrate.proofs.PartLaws.{IsClear, tiles-order, part-within, clear-at}
 use Rattle.cds_integrate.proofs.NodeLaws.{IsNextNode, last_up_to-low, next-node}
 use Rattle.cds_integrate.proofs.RowLaws.{reach-on, reach-end}

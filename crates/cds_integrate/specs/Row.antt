@@ -1,5 +1,5 @@
 -- A row: what a trace, a method and the manual events of a row give. This project's own rules.
-use Rattle.std.specs.Prelude.{◌≡◌, ℕ, ◌+◌, ◌-◌, ◌*◌, ◌^◌, ◌<◌, ◌≤◌, List, [], ◌++◌, map, length, Option, IfSome, ℤ, pos, ◌<ℤ◌, ◌≤ℤ◌, unsigned_abs}
+use Rattle.std.specs.Prelude.{◌≡◌, ℕ, ◌-◌, ◌*◌, ◌^◌, ◌<◌, ◌≤◌, List, [], ◌++◌, map, length, Option, IfSome, pos, ◌<ℤ◌, unsigned_abs}
 use Rattle.std.specs.List.{flat_map}
 use Rattle.cds_base.specs.declared.event.Event.{Event}
 use Rattle.cds_base.specs.declared.peak.Peak.{Peak}

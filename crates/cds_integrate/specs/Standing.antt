@@ -1,5 +1,5 @@
 -- How the parts of a cluster stand on their lines. For private functions alone.
-use Rattle.std.specs.Prelude.{◌≡◌, ℕ, ◌+◌, ◌-◌, ◌*◌, ◌^◌, ◌<◌, ◌≤◌, Bool, true, false, List, [], ◌∷◌, All, length, pos, ◌≤ℤ◌, unsigned_abs, IfSome}
+use Rattle.std.specs.Prelude.{◌≡◌, ℕ, ◌-◌, ◌*◌, ◌^◌, ◌<◌, ◌≤◌, true, false, List, [], ◌∷◌, length, pos, ◌≤ℤ◌, unsigned_abs, IfSome}
 use Rattle.std.specs.List.{sum_by, fold}
 use Rattle.cds_rules.specs.declared.method.Method.{Method}
 use Rattle.cds_trace.specs.Signal.{Signal}

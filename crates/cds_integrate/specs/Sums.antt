@@ -1,5 +1,5 @@
 -- Conservation: what the areas of the parts over one baseline line are together. This project's own rule.
-use Rattle.std.specs.Prelude.{◌≡◌, ℕ, ◌*◌, ◌<◌, ◌≤◌, List, [], ◌∷◌, ◌&&◌, Bool, nat_le, map, ℤ, pos, ◌+ℤ◌, ◌*ℤ◌}
+use Rattle.std.specs.Prelude.{◌≡◌, ℕ, ◌*◌, List, [], ◌∷◌, ◌&&◌, Bool, nat_le, map, ℤ, pos, ◌+ℤ◌, ◌*ℤ◌}
 use Rattle.std.specs.List.{fold, filter}
 use Rattle.cds_trace.specs.Signal.{Signal}
 use Rattle.cds_area.specs.Area.{span, area_by_double_span}

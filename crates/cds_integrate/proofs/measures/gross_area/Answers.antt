@@ -1,8 +1,8 @@
-use Rattle.std.proofs.Common.{◌≡◌, ◌^◌, ◌<◌, ◌-◌, arith, rules}
+use Rattle.std.proofs.Common.{◌-◌, arith, rules}
 use Rattle.std.specs.Prelude.{unsigned_abs}
 use Rattle.std.proofs.lemmas.Int.{to_z-of_z, ints}
 use mir.Syntax.{w128}
-use mir.Val.{SFits, to_z, of_z}
+use mir.Val.{SFits}
 use Rattle.cds_integrate.proofs.NumberLaws.{area-fits}
 use Rattle.cds_integrate.proofs.measures.gross_area.Goals as goal
 

@@ -1,7 +1,7 @@
-use Rattle.std.proofs.Common.{◌≡◌, ℕ, ◌+◌, ◌∷◌, ◌++◌, [], drop, get_or, sym, ◌∙◌, ap, append_assoc, length, ◌<◌, ◌^◌, arith, rules}
+use Rattle.std.proofs.Common.{◌≡◌, ◌+◌, ◌∷◌, ◌++◌, [], drop, get_or, sym, ◌∙◌, ap, append_assoc, length, ◌<◌, ◌^◌, arith, rules}
 use Rattle.std.specs.Prelude.{unsigned_abs}
 use Rattle.std.proofs.lemmas.List.Elements.{All-append}
-use Rattle.cds_integrate.specs.Measures.{gross_area, gross_areas}
+use Rattle.cds_integrate.specs.Measures.{gross_areas}
 use Rattle.cds_integrate.proofs.RowLaws.{no_shape, area_end-low, row-at, rest-of, gross-at, one-all}
 use Rattle.cds_integrate.proofs.measures.gross_areas.Goals as goal
 

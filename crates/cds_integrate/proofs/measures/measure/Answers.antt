@@ -1,10 +1,9 @@
-use Rattle.std.proofs.Common.{◌≡◌, ◌-◌, ◌*◌, ◌<◌, ◌^◌, length, ℤ, pos, ◌-ℤ◌, ◌*ℤ◌, ◌≤ℤ◌, refl, ◌∙◌, arith, rules}
-use Rattle.std.specs.Prelude.{unsigned_abs}
+use Rattle.std.proofs.Common.{◌≡◌, ◌-◌, ◌*◌, length, refl, ◌∙◌, rules}
 use Rattle.std.proofs.lemmas.Int.{to_z-of_z}
 use mir.Syntax.{w128}
 use mir.Val.{SFits, to_z, of_z}
 use Rattle.cds_area.specs.Area.{span, height_by_span}
-use Rattle.cds_integrate.specs.Measures.{gross_area, area_of, measure}
+use Rattle.cds_integrate.specs.Measures.{gross_area, area_of}
 use Rattle.cds_integrate.proofs.AreaLaws.{gross-most, area-without, area-lower}
 use Rattle.cds_integrate.proofs.measures.measure.Goals as goal
 

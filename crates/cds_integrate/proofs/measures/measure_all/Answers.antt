@@ -1,4 +1,4 @@
-use Rattle.std.proofs.Common.{◌≡◌, length, ◌∙◌, ap}
+use Rattle.std.proofs.Common.{length, ◌∙◌, ap}
 use Rattle.cds_integrate.proofs.AreaLaws.{gross-length}
 use Rattle.cds_integrate.proofs.measures.measure_all.Goals as goal
 

@@ -1,10 +1,9 @@
-use Rattle.std.proofs.Common.{◌≡◌, ℕ, ◌+◌, ◌-◌, ◌<◌, ◌^◌, ◌∷◌, ◌++◌, [], pos, drop, take, get_or, length, sym, ◌∙◌, ap, append_assoc, length-drop, arith, rules}
-use Rattle.std.specs.Prelude.{unsigned_abs}
+use Rattle.std.proofs.Common.{◌≡◌, ◌+◌, ◌<◌, ◌∷◌, ◌++◌, [], pos, drop, get_or, length, sym, ◌∙◌, ap, append_assoc, length-drop, arith, rules}
 use Rattle.std.proofs.lemmas.Int.{to_z-of_z}
 use Rattle.std.proofs.lemmas.List.Elements.{All-append}
 use mir.Syntax.{w128}
-use mir.Val.{SFits, to_z, of_z}
-use Rattle.cds_integrate.specs.Measures.{measure, measured}
+use mir.Val.{SFits}
+use Rattle.cds_integrate.specs.Measures.{measured}
 use Rattle.cds_integrate.specs.Standing.{IsMeasured}
 use Rattle.cds_integrate.proofs.RowLaws.{no_shape, row-at, rest-of, measured-at, one-all}
 use Rattle.cds_integrate.proofs.AreaLaws.{gross-get, gross-drop}

@@ -1,4 +1,4 @@
-use Rattle.std.proofs.Common.{◌≡◌, ℕ, ◌+◌, ◌++◌, drop, vec_len, All}
+use Rattle.std.proofs.Common.{◌≡◌, ℕ, ◌+◌, ◌++◌, drop, All}
 use Rattle.cds_integrate.specs.Measures.{measured}
 use Rattle.cds_integrate.specs.Standing.{InRow, IsMeasured}
 use Rattle.cds_integrate.proofs.measures.measure_each.Given as goal

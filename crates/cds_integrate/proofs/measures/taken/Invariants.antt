@@ -1,4 +1,4 @@
-use Rattle.std.proofs.Common.{◌≡◌, ℕ, ◌+◌, ◌*◌, ◌^◌, ◌≤◌, ◌≤ℤ◌, ◌+ℤ◌, pos, drop}
+use Rattle.std.proofs.Common.{◌≡◌, ℕ, ◌*◌, ◌^◌, ◌≤◌, ◌≤ℤ◌, ◌+ℤ◌, pos, drop}
 use Rattle.std.specs.Prelude.{unsigned_abs}
 use Rattle.cds_integrate.specs.Measures.{riders, twice_areas}
 use Rattle.cds_integrate.specs.Standing.{InRow}

@@ -1,4 +1,4 @@
-use Rattle.std.proofs.Common.{◌≡◌, ◌+◌, ◌-◌, false, sym, ◌∙◌, ap, arith}
+use Rattle.std.proofs.Common.{◌≡◌, ◌+◌, ◌-◌, false, sym, ◌∙◌, ap}
 use Rattle.cds_names.specs.Naming.{peak_of}
 use Rattle.cds_figures.proofs.PassingLaws.{first-skip}
 use Rattle.cds_integrate.specs.Peaks.{gives}

@@ -1,8 +1,8 @@
-use Rattle.std.proofs.Common.{◌≡◌, ℕ, ◌+◌, ◌-◌, ◌*◌, ◌<◌, ◌≤◌, ◌∷◌, ◌++◌, [], take, get_or, length, sym, ◌∙◌, ap, arith, rules}
+use Rattle.std.proofs.Common.{◌≡◌, ◌+◌, ◌<◌, ◌∷◌, ◌++◌, [], take, get_or, length, sym, arith, rules}
 use Rattle.std.proofs.lemmas.List.{take_more, length-take-le}
 use Rattle.std.proofs.lemmas.List.Sums.{sum_by_more, sum_by_more_le}
 use Rattle.std.proofs.lemmas.List.Elements.{All-append}
-use Rattle.cds_integrate.specs.Peaks.{IsPeak, ArePeaks, component_of}
+use Rattle.cds_integrate.specs.Peaks.{IsPeak, component_of}
 use Rattle.cds_integrate.specs.Row.{IsSound, StandsIn}
 use Rattle.cds_integrate.proofs.RowLaws.{one-all}
 use Rattle.cds_integrate.proofs.FoundLaws.{no_found, width_of}

@@ -1,4 +1,4 @@
-use Rattle.std.proofs.Common.{◌≡◌, ◌+◌, ◌*◌, ◌≤◌, take, All, vec_len}
+use Rattle.std.proofs.Common.{◌+◌, ◌*◌, ◌≤◌, take, All}
 use Rattle.cds_integrate.specs.Peaks.{ArePeaks}
 use Rattle.cds_integrate.specs.Row.{IsSound, StandsIn}
 use Rattle.cds_integrate.specs.Standing.{widths}

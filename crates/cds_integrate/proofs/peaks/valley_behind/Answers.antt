@@ -1,4 +1,4 @@
-use Rattle.std.proofs.Common.{◌≡◌, ◌∙◌, ◌<◌, sym}
+use Rattle.std.proofs.Common.{◌∙◌, sym}
 use Rattle.cds_integrate.proofs.PeakLaws.{valley-high}
 use Rattle.cds_integrate.proofs.peaks.valley_behind.Goals as goal
 

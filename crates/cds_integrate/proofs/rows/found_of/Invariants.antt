@@ -1,4 +1,4 @@
-use Rattle.std.proofs.Common.{◌≡◌, ℕ, ◌+◌, ◌*◌, ◌<◌, ◌≤◌, ◌++◌, drop, take, length, All}
+use Rattle.std.proofs.Common.{◌≡◌, ℕ, ◌+◌, ◌*◌, ◌<◌, ◌≤◌, ◌++◌, drop, length, All}
 use Rattle.std.specs.List.{flat_map}
 use Rattle.cds_events.specs.Standing.{ClustersFrom}
 use Rattle.cds_integrate.specs.Row.{events_of, found_in}

@@ -1,4 +1,4 @@
-use Rattle.std.proofs.Common.{◌≡◌, ℕ, ◌+◌, ◌*◌, ◌<◌, ◌≤◌, ◌++◌, List, map, length, sym, ◌∙◌, ap, arith, rules}
+use Rattle.std.proofs.Common.{◌≡◌, List, map, length, ◌∙◌, ap, arith}
 use Rattle.std.specs.List.{flat_map}
 use Rattle.cds_base.specs.declared.cluster.Cluster.{Cluster}
 use Rattle.cds_base.specs.declared.event.Event.{Event}
@@ -26,3 +26,16 @@ returns-clause-value g c =
       unblocked = rw (windows, times) at c.in_ok-names.ensures.unblocked;
       peaks_are = rw found at c.in_ok-peaks.ensures.value;
     }
+
+pub name_peaks-requires-clause-few_apexes : goal.name_peaks-requires-clause-few_apexes
+name_peaks-requires-clause-few_apexes g c =
+    let many = found-count c.args.trace.now c.args.method.now c.in_ok-parts.parts.items c.in_ok-parts.ensures.kept in
+    let size : length c.as_slice-found.result.now ≡ length c.in_ok-parts.parts.items = ap length c.as_slice-found.ensures.value in
+    let times : length c.as_slice-times.result.now ≡ length c.as_slice-found.result.now = c.as_slice-times.ensures.len ∙ c.in_ok-apexes.ensures.len in
+    omega (arith, many, size, times, c.in_ok-parts.ensures.wide, c.len-samples.ensures.trace.few)
+
+pub peaks_of-requires-clause-few : goal.peaks_of-requires-clause-few
+peaks_of-requires-clause-few g c =
+    let many = found-count c.args.trace.now c.args.method.now c.in_ok-parts.parts.items c.in_ok-parts.ensures.kept in
+    let size : length c.as_slice-found.result.now ≡ length c.in_ok-parts.parts.items = ap length c.as_slice-found.ensures.value in
+    omega (arith, many, size, c.in_ok-parts.ensures.wide, c.len-samples.ensures.trace.few)

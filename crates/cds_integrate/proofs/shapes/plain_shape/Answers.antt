@@ -1,6 +1,4 @@
-use Rattle.std.proofs.Common.{◌≡◌, ◌<◌, ◌≤◌, arith}
-use Rattle.cds_integrate.specs.Shapes.{plain_shape}
-use Rattle.cds_integrate.specs.Lines.{last_up_to, first_behind}
+use Rattle.std.proofs.Common.{arith}
 use Rattle.cds_integrate.proofs.NodeLaws.{last_up_to-low}
 use Rattle.cds_integrate.proofs.ShapeLaws.{plain-is}
 use Rattle.cds_integrate.proofs.shapes.plain_shape.Goals as goal

@@ -1,5 +1,3 @@
-use Rattle.std.proofs.Common.{◌≡◌, ◌<◌, ◌≤◌, arith}
-use Rattle.cds_integrate.specs.Shapes.{rider_shape}
 use Rattle.cds_integrate.proofs.ShapeLaws.{rider-is}
 use Rattle.cds_integrate.proofs.shapes.rider_shape.Goals as goal
 

@@ -1,7 +1,7 @@
-use Rattle.std.proofs.Common.{◌≡◌, ℕ, ◌+◌, ◌*◌, ◌<◌, ◌≤◌, ◌++◌, List, All, map, ap, subst, length, ◌∙◌, arith}
+use Rattle.std.proofs.Common.{◌≡◌, ◌++◌, List, All, map, ap, subst, ◌∙◌, arith}
 use Rattle.cds_base.specs.declared.event.Event.{Event}
 use Rattle.cds_baseline.specs.Cluster.{cluster_nodes}
-use Rattle.cds_integrate.specs.Shapes.{is_covered, nodes_of, shape_of, shapes_of}
+use Rattle.cds_integrate.specs.Shapes.{is_covered, nodes_of, shape_of}
 use Rattle.cds_integrate.specs.Standing.{IsShape}
 use Rattle.cds_integrate.proofs.PartLaws.{part-within, tiles-count, tiles-order}
 use Rattle.cds_integrate.proofs.ShapeLaws.{cluster-next, cluster-over, row-of}

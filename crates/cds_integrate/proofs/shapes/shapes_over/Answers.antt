@@ -1,8 +1,7 @@
-use Rattle.std.proofs.Common.{◌≡◌, ℕ, ◌+◌, ◌*◌, ◌<◌, ◌≤◌, ◌∷◌, ◌++◌, [], take, length, map, arith, rules}
+use Rattle.std.proofs.Common.{◌≡◌, ◌∷◌, ◌++◌, [], arith, rules}
 use Rattle.std.proofs.lemmas.Grind.{common_steps}
 use Rattle.std.proofs.lemmas.List.{take_all}
 use Rattle.std.proofs.lemmas.List.Elements.{All-append}
-use Rattle.cds_integrate.specs.Shapes.{shape_of}
 use Rattle.cds_integrate.specs.Standing.{IsShape}
 use Rattle.cds_integrate.proofs.PartLaws.{no_part, part-within, tiles-at, tiles-end, tiles-order}
 use Rattle.cds_integrate.proofs.RowLaws.{one-all}
