@@ -14,3 +14,6 @@ mod shapes;
 
 pub use row_part::{PeakList, RowPart};
 pub use rows::row;
+
+#[cfg(test)]
+mod tests;
