@@ -6,3 +6,6 @@ pub mod ShapeLaws
 pub mod AreaLaws
 pub mod FoundLaws
 pub mod PeakLaws
+pub mod OrderLaws
+pub mod TangentLaws
+pub mod SumLaws

@@ -95,7 +95,7 @@ free-of true h = sym h
 free-of false h = refl
 
 -- a rider doesn't begin at a node
-rider-apart : (signal : Signal) (events : List Event) (nodes : List ℕ) (part : Part) → is_rider signal events nodes part ≡ true →
+pub rider-apart : (signal : Signal) (events : List Event) (nodes : List ℕ) (part : Part) → is_rider signal events nodes part ≡ true →
     list_any (λ other. other == part.start) nodes ≡ false
 rider-apart signal events nodes part is =
     let skim : Bool = list_any (skims (part.start * signal.period)) events in
@@ -106,7 +106,7 @@ rider-apart signal events nodes part is =
     free-of node free
 
 -- riders ahead reach no farther than a node that doesn't lie before them
-reach-clear : (signal : Signal) (events : List Event) (nodes : List ℕ) (node reach start end : ℕ) (parts : List Part) → Tiles start parts end →
+pub reach-clear : (signal : Signal) (events : List Event) (nodes : List ℕ) (node reach start end : ℕ) (parts : List Part) → Tiles start parts end →
     reach ≤ node → start ≤ node → IsClear parts node → list_any (λ other. other == node) nodes ≡ true →
     from_reach reach (map (shape_of signal events nodes) parts) ≤ node
 reach-clear signal events nodes node reach start end [] tiled low at clear among = low

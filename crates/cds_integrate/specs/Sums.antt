@@ -1,10 +1,18 @@
 -- Conservation: what the areas of the parts over one baseline line are together. This project's own rule.
-use Rattle.std.specs.Prelude.{◌≡◌, ℕ, ◌*◌, List, [], ◌∷◌, ◌&&◌, Bool, nat_le, map, ℤ, pos, ◌+ℤ◌, ◌*ℤ◌}
+use Rattle.std.specs.Prelude.{◌≡◌, ℕ, ◌*◌, List, [], ◌∷◌, ◌&&◌, Bool, All, nat_le, map, ℤ, pos, ◌+ℤ◌, ◌*ℤ◌}
 use Rattle.std.specs.List.{fold, filter}
+use Rattle.cds_base.specs.declared.event.Event.{Event}
+use Rattle.cds_base.specs.declared.cluster.Cluster.{Cluster}
+use Rattle.cds_rules.specs.declared.method.Method.{Method}
 use Rattle.cds_trace.specs.Signal.{Signal}
 use Rattle.cds_area.specs.Area.{span, area_by_double_span}
 use Rattle.cds_integrate.specs.declared.measures.Measured.{Measured}
+use Rattle.cds_integrate.specs.declared.row_part.Answer.{Answer}
+use Rattle.cds_integrate.specs.declared.row_part.Answer.TheVariants as variant
 use Rattle.cds_integrate.specs.Lines.{chord}
+use Rattle.cds_integrate.specs.Shapes.{nodes_of, shapes_of}
+use Rattle.cds_integrate.specs.Measures.{measured}
+use Rattle.cds_integrate.specs.Row.{events_of, row_clusters}
 
 -- these whole numbers, over the divisor den, are the fractions one by one
 abbrev pub AreOver : ℕ → List ℤ → List (ℤ × ℕ) → Type 0
@@ -38,3 +46,12 @@ abbrev pub AreConserved : Signal → List Measured → List ℕ → Type 0
 AreConserved signal parts [] = Unit {0}
 AreConserved signal parts (a ∷ []) = Unit {0}
 AreConserved signal parts (a ∷ b ∷ nodes) = IsConserved signal parts a b × AreConserved signal parts (b ∷ nodes)
+
+-- the areas over each baseline line of a cluster are conserved
+abbrev pub ConservesIn : Signal → List Event → Cluster → Type 0
+ConservesIn signal events cluster = AreConserved signal (measured signal (shapes_of signal events cluster)) (nodes_of signal events cluster)
+
+-- and those of each cluster of a row
+abbrev pub Conserves : Signal → Method → List Event → Answer → Type 0
+Conserves signal method manual (variant.Peaks peaks) = All (ConservesIn signal (events_of method manual)) (row_clusters signal method manual)
+Conserves signal method manual (variant.TooMany number) = Unit {0}
