@@ -1,7 +1,7 @@
 -- The nodes of a cluster in their order, and the line between two of them in a row.
-use Rattle.std.proofs.Common.{◌≡◌, ℕ, zero, suc, ◌+◌, ◌-◌, ◌<◌, ◌≤◌, inl, inr, Bool, true, false, ◌||◌, List, [], ◌∷◌, ◌++◌, map, length, get_or, refl, sym, ap, ◌∙◌, append_assoc, arith}
+use Rattle.std.proofs.Common.{◌≡◌, ℕ, zero, suc, ◌+◌, ◌<◌, ◌≤◌, inl, inr, Bool, true, false, List, [], ◌∷◌, ◌++◌, map, length, refl, sym, ap, ◌∙◌, append_assoc, arith}
 use Rattle.std.specs.Prelude.{nat_lt, nat_le, ◌==◌, if◌then◌else◌}
-use Rattle.std.specs.List.{fold, find, list_any}
+use Rattle.std.specs.List.{fold, list_any}
 use Rattle.std.proofs.lemmas.Bool.{cases_Bool, cases_eq}
 use Rattle.std.proofs.lemmas.Grind.{common_steps}
 use Rattle.std.proofs.lemmas.List.{map-append}
@@ -12,7 +12,7 @@ use Rattle.cds_trace.specs.Signal.{Signal}
 use Rattle.cds_baseline.specs.Numbers.{passing}
 use Rattle.cds_baseline.specs.Nodes.{sample_of, is_node}
 use Rattle.cds_baseline.specs.Cluster.{cluster_points, fixed_points, cluster_nodes}
-use Rattle.cds_baseline.proofs.PointLaws.{IsReady, cluster-ready}
+use Rattle.cds_baseline.proofs.PointLaws.{cluster-ready}
 use Rattle.cds_integrate.specs.Lines.{last_up_to, first_behind}
 use Rattle.cds_integrate.proofs.PartLaws.{IsClear}
 use Rattle.cds_integrate.proofs.NodeLaws.{Each, each-append, each-more, each-at, each-passing, points-clear}

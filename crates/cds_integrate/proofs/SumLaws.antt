@@ -1,5 +1,5 @@
 -- Conservation: the areas of the parts over one baseline line are together the area over the whole line.
-use Rattle.std.proofs.Common.{◌≡◌, ℕ, zero, suc, ◌+◌, ◌-◌, ◌*◌, ◌<◌, ◌≤◌, inl, inr, Bool, true, false, ◌&&◌, List, [], ◌∷◌, ◌++◌, map, length, All, ℤ, pos, negsuc, ◌+ℤ◌, ◌-ℤ◌, ◌*ℤ◌, neg_ℤ, refl, sym, ap, subst, ◌∙◌, append_assoc, arith}
+use Rattle.std.proofs.Common.{◌≡◌, ℕ, zero, suc, ◌-◌, ◌*◌, ◌<◌, ◌≤◌, inl, inr, Bool, true, false, List, [], ◌∷◌, ◌++◌, map, All, ℤ, pos, negsuc, ◌+ℤ◌, ◌-ℤ◌, ◌*ℤ◌, neg_ℤ, refl, sym, ap, subst, ◌∙◌, append_assoc, arith}
 use Rattle.std.specs.Prelude.{nat_le, ◌==◌, if◌then◌else◌}
 use Rattle.std.specs.List.{fold, filter, list_any}
 use Rattle.std.proofs.lemmas.Bool.{cases_Bool, cases_lt}
@@ -23,7 +23,7 @@ use Rattle.cds_integrate.specs.Shapes.{is_covered, nodes_of, is_rider, rider_sha
 use Rattle.cds_integrate.specs.Measures.{riders, twice_whole_area, twice_areas, gross_area, area_of, measure, measured}
 use Rattle.cds_integrate.specs.Sums.{AreOver, AreTogether, area_fraction, lies_within, IsConserved, AreConserved, ConservesIn}
 use Rattle.cds_integrate.specs.Standing.{from_reach, IsShape, InRow}
-use Rattle.cds_integrate.proofs.PartLaws.{IsClear, tiles-order}
+use Rattle.cds_integrate.proofs.PartLaws.{IsClear}
 use Rattle.cds_integrate.proofs.RowLaws.{reach-on, reach-end, reach-low}
 use Rattle.cds_integrate.proofs.AreaLaws.{gross-rider, twice-from, twice-end}
 use Rattle.cds_integrate.proofs.NodeLaws.{Each}

@@ -1,6 +1,6 @@
 -- Where tangents end, over the definition alone, and with it how the parts of each cluster stand in a row.
-use Rattle.std.proofs.Common.{◌≡◌, ℕ, zero, suc, ◌+◌, ◌-◌, ◌*◌, ◌<◌, ◌≤◌, inl, inr, Bool, true, false, List, [], ◌∷◌, map, length, All, ℤ, pos, ◌*ℤ◌, refl, sym, ap, ◌∙◌, arith}
-use Rattle.std.specs.Prelude.{nat_lt, int_le, slice_index_or}
+use Rattle.std.proofs.Common.{ℕ, ◌<◌, inl, inr, List, arith}
+use Rattle.std.specs.Prelude.{nat_lt, slice_index_or}
 use Rattle.std.proofs.lemmas.Bool.{cases_Bool, and_parts}
 use Rattle.std.proofs.lemmas.Grind.{common_steps}
 use Rattle.std.proofs.lemmas.List.Elements.{All-map}
@@ -10,8 +10,8 @@ use Rattle.cds_base.specs.declared.cluster.Cluster.{Cluster}
 use Rattle.cds_trace.specs.Signal.{Signal, IsTrace}
 use Rattle.cds_baseline.specs.Tangent.{tangent_sample}
 use Rattle.cds_baseline.proofs.TangentLaws.{tangent-is}
-use Rattle.cds_events.specs.Standing.{IsCluster, ClustersFrom}
-use Rattle.cds_integrate.specs.Shapes.{nodes_of, is_skimmed, is_rider, rider_shape, plain_shape, shape_of, shapes_of}
+use Rattle.cds_events.specs.Standing.{IsCluster}
+use Rattle.cds_integrate.specs.Shapes.{nodes_of, is_skimmed, is_rider, shape_of, shapes_of}
 use Rattle.cds_integrate.specs.Standing.{IsOver, IsShape, InRow}
 use Rattle.cds_integrate.proofs.ShapeLaws.{plain-is, rider-is, row-of, cluster-next, cluster-over}
 
