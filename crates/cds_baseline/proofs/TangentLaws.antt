@@ -1,8 +1,8 @@
 -- The search for the tangent sample: it is the last sample of the least slope.
-use Rattle.std.proofs.Common.{◌≡◌, ℕ, ◌+◌, ◌-◌, ◌<◌, ◌≤◌, ℤ, pos, ◌-ℤ◌, ◌*ℤ◌, ◌≤ℤ◌, ◌<ℤ◌, true, false, inl, inr, arith, refl}
+use Rattle.std.proofs.Common.{◌≡◌, ℕ, zero, suc, ◌+◌, ◌-◌, ◌<◌, ◌≤◌, ℤ, pos, ◌-ℤ◌, ◌*ℤ◌, ◌≤ℤ◌, ◌<ℤ◌, true, false, inl, inr, arith, refl}
 use Rattle.std.specs.Prelude.{int_le}
 use Rattle.std.proofs.lemmas.Int.{ints}
-use Rattle.std.proofs.lemmas.Bool.{cases_lt, cases_eq}
+use Rattle.std.proofs.lemmas.Bool.{cases_Bool, cases_lt, cases_eq}
 use borrow.Author.Differences.{le-true, le-false}
 use Rattle.cds_trace.specs.Signal.{Signal, sample_at}
 use Rattle.cds_baseline.specs.declared.slopes.Slope.{Slope}
@@ -117,3 +117,39 @@ least-clear signal v j last least h k after inside =
           rw (start, none, flat-mul (sample_at signal v) (last - v)) (omega (arith, ints))
       | inr beyond ↦ rw (h.rise, h.run) at (h.each k (omega arith) (omega (arith, h.inside)))
     ])
+
+-- the least slope to the samples from v + 1 up to v + 1 + n
+abbrev pub HasLeast : Signal → ℕ → ℕ → Type 0
+HasLeast signal v j = (last : ℕ) × (least : Slope) × IsLastLeast signal v j last least
+
+has-least : (signal : Signal) (v n : ℕ) → HasLeast signal v (v + 1 + n)
+has-least signal v zero =
+    let e : v + 1 + 0 ≡ v + 1 = omega arith in
+    let slope : Slope = record { rise = rise_to signal v (v + 1); run = v + 1 - v } in
+    rw e (v + 1, slope, least-start signal v slope refl refl)
+has-least signal v (suc n) =
+    let e : v + 1 + suc n ≡ v + 1 + n + 1 = omega arith in
+    let j : ℕ = v + 1 + n in
+    let before = has-least signal v n in
+    let slope : Slope = record { rise = rise_to signal v (j + 1); run = j + 1 - v } in
+    rw e (elim (cases_Bool (int_le (slope.rise *ℤ pos before.1.run) (before.1.rise *ℤ pos slope.run))) [
+      | inl is ↦ (j + 1, slope, least-takes signal v j before.0 before.1 slope before.2 refl refl is)
+      | inr other ↦ (before.0, before.1, least-keeps signal v j before.0 before.1 slope before.2 refl refl other)
+    ])
+
+-- what holds of the sample at which a tangent ends
+pub record IsTangent (signal : Signal) (v end : ℕ) : Type 0 where
+  pub beyond : v < tangent_sample signal v end
+  pub inside : tangent_sample signal v end ≤ end
+  pub clear : (k : ℕ) → v ≤ k → k ≤ tangent_sample signal v end → is_over signal v (tangent_sample signal v end) k ≡ true
+
+pub tangent-is : (signal : Signal) (v end : ℕ) → v < end → IsTangent signal v end
+tangent-is signal v end order =
+    let e : v + 1 + (end - (v + 1)) ≡ end = omega (arith, order) in
+    let h = rw e at (has-least signal v (end - (v + 1))) in
+    let is : h.0 ≡ tangent_sample signal v end = h.2.value in
+    record {
+      beyond = omega (arith, is, h.2.beyond);
+      inside = omega (arith, is, h.2.inside);
+      clear = rw is at (least-clear signal v end h.0 h.1 h.2);
+    }

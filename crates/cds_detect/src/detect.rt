@@ -38,6 +38,7 @@ pub fn raw_peaks<L: Ledger>(
         raw ≡ answer_of (raw_peaks_of trace.now (settings_of method.now manual.now))) }
     ensures stand { IfOk result (λ raw. StandFrom trace.now 0 (peaks_in raw)) }
     ensures few { IfOk result (λ raw. length (peaks_in raw) ≤ MOST_RAW_PEAKS) }
+    ensures least { steps.old ≤ steps.new }
     ensures counted { steps.new ≤ steps.old + 4 * length trace.now.samples }
 {
     let count = class_count(trace.len(), method.bunch);
@@ -80,6 +81,7 @@ fn turn<L: Ledger>(
         ≡ peaks_with trace.now settings found.old.items window.at) }
     ensures counted { IfOk result (λ w. steps.new + cost_to trace.now method.now.bunch window.at
         ≤ steps.old + cost_to trace.now method.now.bunch w.at) }
+    ensures least { steps.old ≤ steps.new }
     ensures bounded { steps.new + cost_to trace.now method.now.bunch window.at
         ≤ steps.old + whole_cost trace.now method.now.bunch }
 {

@@ -32,6 +32,7 @@ pub(crate) fn first<L: Ledger>(
 ) -> Window
     ensures first { result.at ≡ 0 }
     ensures stands { Stands trace.now (settings_of method.now manual.now) result }
+    ensures least { steps.old ≤ steps.new }
     ensures counted { steps.new ≤ steps.old + 6 }
 {
     if class_count(trace.len(), method.bunch) == 0 {
@@ -66,6 +67,7 @@ fn next<L: Ledger>(
     requires stands { Stands trace.now (settings_of method.now manual.now) window }
     ensures next { result.at ≡ window.at + 1 }
     ensures stands { Stands trace.now (settings_of method.now manual.now) result }
+    ensures least { steps.old ≤ steps.new }
     ensures counted { steps.new ≤ steps.old + 2 }
 {
     let count = class_count(trace.len(), method.bunch);
@@ -99,6 +101,7 @@ pub(crate) fn find_up<L: Ledger>(
     ensures place { let cs = classes trace.now (settings_of method.now manual.now) in
         result.at ≡ next_up cs window.at }
     ensures stands { Stands trace.now (settings_of method.now manual.now) result }
+    ensures least { steps.old ≤ steps.new }
     ensures counted { steps.new + 2 * window.at ≤ steps.old + 2 * result.at }
 {
     let count = class_count(trace.len(), method.bunch);
@@ -121,6 +124,7 @@ pub(crate) fn climb<L: Ledger>(
     ensures place { let cs = classes trace.now (settings_of method.now manual.now) in
         result.at ≡ climb cs method.now.plateau start.at }
     ensures stands { Stands trace.now (settings_of method.now manual.now) result }
+    ensures least { steps.old ≤ steps.new }
     ensures counted { steps.new + 2 * start.at ≤ steps.old + 2 * result.at }
 {
     let count = class_count(trace.len(), method.bunch);
@@ -161,6 +165,7 @@ pub(crate) fn fall<L: Ledger>(
     ensures place { let cs = classes trace.now (settings_of method.now manual.now) in
         result.at ≡ fall cs start.at }
     ensures stands { Stands trace.now (settings_of method.now manual.now) result }
+    ensures least { steps.old ≤ steps.new }
     ensures counted { steps.new + 2 * start.at ≤ steps.old + 2 * result.at }
 {
     let count = class_count(trace.len(), method.bunch);

@@ -1,5 +1,5 @@
 -- How a search for the greatest or the least number that passes a test goes on, and how it ends.
-use Rattle.std.proofs.Common.{◌≡◌, ℕ, zero, suc, ◌+◌, ◌-◌, ◌<◌, ◌≤◌, Bool, true, false, Option, Some, None, refl, arith}
+use Rattle.std.proofs.Common.{◌≡◌, ℕ, suc, ◌+◌, ◌-◌, ◌<◌, ◌≤◌, Bool, true, false, Some, None, refl, arith}
 use Rattle.cds_figures.specs.Crossings.{last_passing, first_passing}
 
 -- a last number that doesn't pass is passed over

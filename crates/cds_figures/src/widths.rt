@@ -108,6 +108,7 @@ fn left_crossing<L: Ledger>(
     requires below { level.at <ℤ level.top }
     ensures value { result ≡ left_crossing trace.now line.now level.at start apex }
     ensures before { IfSome result (λ t. t < apex * trace.now.period) }
+    ensures least { steps.old ≤ steps.new }
     ensures counted { steps.new ≤ steps.old + (apex - start) }
 {
     let samples = trace.len();
@@ -143,6 +144,7 @@ fn right_crossing<L: Ledger>(
     ensures value { result ≡ right_crossing trace.now line.now level.at apex end }
     ensures behind { IfSome result (λ t. apex * trace.now.period ≤ t) }
     ensures within { IfSome result (λ t. t ≤ end * trace.now.period) }
+    ensures least { steps.old ≤ steps.new }
     ensures counted { steps.new ≤ steps.old + (end - apex) }
 {
     let samples = trace.len();
@@ -189,6 +191,7 @@ pub fn crossings<L: Ledger>(
     ensures before { IfSome result (λ times. times.0 < apex * trace.now.period) }
     ensures behind { IfSome result (λ times. apex * trace.now.period ≤ times.1) }
     ensures inside { IfSome result (λ times. times.1 ≤ (length trace.now.samples - 1) * trace.now.period) }
+    ensures least { steps.old ≤ steps.new }
     ensures counted { steps.new ≤ steps.old + (end - start + 1) }
 {
     let level = level_of(apex, line, level, trace, steps);

@@ -14,6 +14,7 @@ loop-window-init g c =
     record {
       stands = c.first-window.ensures.stands;
       found = rw (c.new-found.ensures.items, c.first-window.ensures.first) (ap (peaks_of signal settings.bunch) (later_spans-zero (classes signal settings) settings.plateau));
+      least = omega arith;
       counted = omega arith;
     }
 

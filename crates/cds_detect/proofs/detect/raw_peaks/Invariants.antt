@@ -8,6 +8,7 @@ abbrev pub invariant-loop-window : goal.invariant-loop-window
 invariant-loop-window g l = record {
   stands : Stands l.trace (settings_of l.method l.manual) l.window;
   found : peaks_with l.trace (settings_of l.method l.manual) l.found.items l.window.at ≡ raw_peaks_of l.trace (settings_of l.method l.manual);
+  least : l.fn.steps ≤ l.steps;
   counted : l.steps ≤ (l.fn.steps + 6) + cost_to l.trace l.method.bunch l.window.at;
 }
 

@@ -15,6 +15,7 @@ loop-window-init g c =
       after = omega arith;
       flats = rw (c.next-window.ensures.next) (sym (flat_run-start cs c.args.start.at));
       goes_on = rw (c.next-window.ensures.next) refl;
+      least = omega arith;
       counted = omega arith;
     }
 
@@ -31,6 +32,7 @@ loop-window-preserved g c =
       after = omega arith;
       flats = rw (c.next-window-in-loop-window.ensures.next) on.1;
       goes_on = rw (c.next-window-in-loop-window.ensures.next) (sym on.0 ∙ kept.goes_on);
+      least = omega arith;
       counted = omega arith;
     }
 

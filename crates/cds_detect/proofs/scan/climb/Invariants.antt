@@ -13,6 +13,7 @@ invariant-loop-window g l = record {
   after : l.fn.start.at < l.window.at;
   flats : l.flats ≡ flat_run (classes l.trace (settings_of l.method l.manual)) l.fn.start.at l.window.at;
   goes_on : least (ends_climb (classes l.trace (settings_of l.method l.manual)) l.method.plateau l.fn.start.at) l.window.at (length (classes l.trace (settings_of l.method l.manual))) ≡ climb (classes l.trace (settings_of l.method l.manual)) l.method.plateau l.fn.start.at;
+  least : l.fn.steps ≤ l.steps;
   counted : l.steps + 2 * l.fn.start.at ≤ l.fn.steps + 2 * l.window.at;
 }
 

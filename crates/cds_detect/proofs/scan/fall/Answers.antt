@@ -16,5 +16,6 @@ loop-window-preserved g c =
     record {
       stands = c.next-window-in-loop-window.ensures.stands;
       goes_on = rw (c.next-window-in-loop-window.ensures.next) (sym on ∙ kept.goes_on);
+      least = omega arith;
       counted = omega arith;
     }

@@ -10,6 +10,7 @@ abbrev pub invariant-loop-window : goal.invariant-loop-window
 invariant-loop-window g l = record {
   stands : Stands l.trace (settings_of l.method l.manual) l.window;
   goes_on : least (ends_fall (classes l.trace (settings_of l.method l.manual))) l.window.at (length (classes l.trace (settings_of l.method l.manual))) ≡ fall (classes l.trace (settings_of l.method l.manual)) l.fn.start.at;
+  least : l.fn.steps ≤ l.steps;
   counted : l.steps + 2 * l.fn.start.at ≤ l.fn.steps + 2 * l.window.at;
 }
 

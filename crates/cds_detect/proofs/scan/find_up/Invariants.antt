@@ -9,6 +9,7 @@ abbrev pub invariant-loop-window : goal.invariant-loop-window
 invariant-loop-window g l = record {
   stands : Stands l.trace (settings_of l.method l.manual) l.window;
   goes_on : next_up (classes l.trace (settings_of l.method l.manual)) l.window.at ≡ next_up (classes l.trace (settings_of l.method l.manual)) l.fn.window.at;
+  least : l.fn.steps ≤ l.steps;
   counted : l.steps + 2 * l.fn.window.at ≤ l.fn.steps + 2 * l.window.at;
 }
 

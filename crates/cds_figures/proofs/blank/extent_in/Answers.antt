@@ -1,8 +1,8 @@
-use Rattle.std.proofs.Common.{◌≡◌, ◌*◌, sym, ◌∙◌, rules, arith}
+use Rattle.std.proofs.Common.{sym, ◌∙◌, rules, arith}
 use Rattle.std.proofs.lemmas.Int.{to_z-of_z}
 use mir.Syntax.{w32}
-use mir.Val.{SFits, to_z, of_z}
-use Rattle.cds_figures.specs.Noise.{is_in_window, extent_of, samples_in}
+use mir.Val.{SFits}
+use Rattle.cds_figures.specs.Noise.{samples_in}
 use Rattle.cds_figures.proofs.SampleLaws.{samples-more, samples-skip}
 use Rattle.cds_figures.proofs.blank.extent_in.Goals as goal
 use Rattle.cds_figures.proofs.blank.extent_in.Goals.{then-is_in_window, else-is_in_window}

@@ -1,8 +1,8 @@
-use Rattle.std.proofs.Common.{◌≡◌, ◌+◌, ◌-◌, ◌*◌, ◌≤◌, ◌<◌, ◌≤ℤ◌, ◌<ℤ◌, Some, ap, sym, ◌∙◌, arith, rules}
+use Rattle.std.proofs.Common.{◌+◌, ◌-◌, ◌*◌, ◌≤◌, ◌<◌, ◌≤ℤ◌, ◌<ℤ◌, Some, ap, sym, ◌∙◌, arith, rules}
 use Rattle.std.proofs.lemmas.Int.{to_z-of_z}
 use Rattle.std.proofs.Math.Nat.{mul-le-mul_right}
 use mir.Syntax.{w64}
-use mir.Val.{SFits, to_z, of_z}
+use mir.Val.{SFits, to_z}
 use Rattle.cds_figures.proofs.CrossingLaws.{left-found, left-on, left-none, nearer_low}
 use Rattle.cds_figures.proofs.widths.left_crossing.Goals as goal
 
@@ -44,5 +44,6 @@ loop-i-preserved g c =
       inner = simp to_z-of_z c.scaled_height-outer.ensures.value;
       above = simp to_z-of_z up;
       search = sym on ∙ c.loop-i.invariant.search;
+      least = omega (arith, c.loop-i.invariant.least, c.scaled_height-outer.ensures.counted);
       counted = omega (arith, c.loop-i.invariant.counted, c.scaled_height-outer.ensures.counted, c.loop-i-test.true);
     }

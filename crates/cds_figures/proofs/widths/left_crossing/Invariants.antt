@@ -9,6 +9,7 @@ invariant-loop-i g l = record {
   inner : l.inner ≡ scaled_height l.trace l.line l.i;
   above : l.level.at <ℤ l.inner;
   search : last_passing (is_down_to l.trace l.line l.level.at) l.start (l.i - l.start) ≡ last_passing (is_down_to l.trace l.line l.level.at) l.start (l.apex - l.start);
+  least : l.fn.steps ≤ l.steps;
   counted : l.steps + l.i ≤ l.fn.steps + l.apex;
 }
 

@@ -1,10 +1,9 @@
-use Rattle.std.proofs.Common.{◌≡◌, ◌+◌, ◌-◌, ◌*◌, ◌≤◌, ◌<◌, ◌≤ℤ◌, ◌<ℤ◌, Some, ap, sym, ◌∙◌, arith, rules}
+use Rattle.std.proofs.Common.{◌≡◌, ◌+◌, ◌-◌, ◌*◌, ◌≤◌, ◌≤ℤ◌, ◌<ℤ◌, Some, ap, sym, ◌∙◌, arith, rules}
 use Rattle.std.proofs.lemmas.Int.{to_z-of_z}
 use Rattle.std.proofs.Math.Nat.{mul-le-mul_right}
 use mir.Syntax.{w64}
-use mir.Val.{SFits, to_z, of_z}
-use Rattle.cds_figures.specs.Crossings.{scaled_height}
-use Rattle.cds_figures.proofs.CrossingLaws.{right-found, right-on, right-none}
+use mir.Val.{SFits, to_z}
+use Rattle.cds_figures.proofs.CrossingLaws.{right-found, right-on}
 use Rattle.cds_figures.proofs.widths.right_crossing.Goals as goal
 
 pub returns-then-outer-level-clause-value : goal.returns-then-outer-level-clause-value
@@ -33,5 +32,6 @@ loop-i-preserved g c =
       inner = rw here (simp to_z-of_z c.scaled_height-outer.ensures.value);
       above = simp to_z-of_z up;
       search = sym on ∙ c.loop-i.invariant.search;
+      least = omega (arith, c.loop-i.invariant.least, c.scaled_height-outer.ensures.counted);
       counted = omega arith;
     }

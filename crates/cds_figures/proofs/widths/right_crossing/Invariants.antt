@@ -7,5 +7,6 @@ invariant-loop-i g l = record {
   inner : l.inner ≡ scaled_height l.trace l.line (l.i - 1);
   above : l.level.at <ℤ l.inner;
   search : first_passing (is_down_to l.trace l.line l.level.at) l.i (l.end + 1 - l.i) ≡ first_passing (is_down_to l.trace l.line l.level.at) (l.apex + 1) (l.end - l.apex);
+  least : l.fn.steps ≤ l.steps;
   counted : l.steps + (l.apex + 1) ≤ l.fn.steps + l.i;
 }

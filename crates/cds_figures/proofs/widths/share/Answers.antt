@@ -1,4 +1,4 @@
-use Rattle.std.proofs.Common.{◌≡◌, ◌+◌, ◌*◌, ◌/◌, ◌≤◌, ◌<◌, arith}
+use Rattle.std.proofs.Common.{arith}
 use Rattle.cds_figures.proofs.NumberLaws.{part-le, part-lt}
 use Rattle.cds_figures.proofs.widths.share.Goals as goal
 

@@ -1,0 +1,52 @@
+-- The peaks of a row, one at a time, and what holds of the numbers of each.
+use Rattle.std.proofs.Common.{◌≡◌, ℕ, suc, ◌+◌, true, false, not, ◌&&◌, List, [], ◌∷◌, ◌++◌, length, Option, Some, None, pos, ◌<ℤ◌, arith}
+use Rattle.std.specs.Prelude.{int_lt}
+use Rattle.std.proofs.lemmas.Bool.{and_parts}
+use Rattle.std.proofs.lemmas.Grind.{common_steps}
+use Rattle.cds_base.specs.declared.peak.Ratio.{Ratio}
+use Rattle.cds_base.specs.declared.peak.Peak.{Peak}
+use Rattle.cds_rules.specs.declared.method.Method.{Method}
+use Rattle.cds_trace.specs.Signal.{Signal}
+use Rattle.cds_area.specs.Area.{IsRatio, span}
+use Rattle.cds_integrate.specs.declared.measures.Measured.{Measured}
+use Rattle.cds_integrate.specs.declared.found.Found.{Found}
+use Rattle.cds_integrate.specs.Measures.{is_rejected}
+use Rattle.cds_integrate.specs.Peaks.{boundary_height, is_valley_between, IsValley, neighbour, component_of, IsPeak, ArePeaks}
+
+-- a boundary that is no valley
+pub valley-none : (signal : Signal) (method : Method) (before part : Measured) → is_valley_between signal method before part ≡ false →
+    IsValley signal part (neighbour signal method (Some before) part) None
+valley-none signal method before part other = rw other tt
+
+-- one that is
+pub valley-some : (signal : Signal) (method : Method) (before part : Measured) (heights : Ratio × Ratio) → is_valley_between signal method before part ≡ true →
+    IsRatio heights.0 before.height (span before.shape.line) → IsRatio heights.1 (boundary_height signal part) (span part.shape.line) →
+    IsValley signal part (neighbour signal method (Some before) part) (Some heights)
+valley-some signal method before part heights is first second = rw is (first, second)
+
+-- it lies above the line
+pub valley-high : (signal : Signal) (method : Method) (before part : Measured) → is_valley_between signal method before part ≡ true →
+    pos 0 <ℤ boundary_height signal part
+valley-high signal method before part is =
+    let rest = (and_parts (not before.shape.rider && not part.shape.rider) (not (is_rejected signal method before) && int_lt (pos 0) (boundary_height signal part)) is).1 in
+    let above = (and_parts (not (is_rejected signal method before)) (int_lt (pos 0) (boundary_height signal part)) rest).1 in
+    grind (arith, common_steps)
+
+-- what isn't rejected has a positive area and height
+pub kept-positive : (signal : Signal) (method : Method) (part : Measured) → is_rejected signal method part ≡ false →
+    (pos 0 <ℤ part.area) × (pos 0 <ℤ part.height)
+kept-positive signal method part kept =
+    (grind (arith, common_steps), grind (arith, common_steps))
+
+-- one more peak
+pub peaks-on : (signal : Signal) (method : Method) (naming : List (Option ℕ)) (place : ℕ) (found : List Found) (peaks : List Peak) (one : Found) (peak : Peak) →
+    ArePeaks signal method naming place found peaks → IsPeak signal method (component_of naming (place + length found)) one peak →
+    ArePeaks signal method naming place (found ++ one ∷ []) (peaks ++ peak ∷ [])
+peaks-on signal method naming place [] [] one peak are is =
+    let e : place + 0 ≡ place = omega arith in
+    (rw e at is, tt)
+peaks-on signal method naming place [] (p ∷ ps) one peak are is = absurd are
+peaks-on signal method naming place (f ∷ fs) [] one peak are is = absurd are
+peaks-on signal method naming place (f ∷ fs) (p ∷ ps) one peak are is =
+    let e : place + suc (length fs) ≡ suc place + length fs = omega arith in
+    (are.0, peaks-on signal method naming (suc place) fs ps one peak are.1 (rw e at is))

@@ -1,0 +1,179 @@
+-- How the parts of a cluster stand on their lines.
+use Rattle.std.proofs.Common.{◌≡◌, ℕ, suc, ◌+◌, ◌-◌, ◌*◌, ◌<◌, ◌≤◌, inl, inr, Bool, true, false, not, ◌&&◌, List, [], ◌∷◌, map, length, All, ℤ, pos, negsuc, ◌*ℤ◌, ◌≤ℤ◌, refl, sym, arith}
+use Rattle.std.proofs.lemmas.List.{length-map}
+use Rattle.std.specs.Prelude.{slice_index_or, nat_lt, ◌==◌}
+use Rattle.std.specs.List.{list_any}
+use Rattle.std.proofs.lemmas.Bool.{cases_Bool, and_parts}
+use Rattle.std.proofs.lemmas.Int.{ints}
+use Rattle.std.proofs.lemmas.Grind.{common_steps}
+use Rattle.std.proofs.Math.Nat.{mul-pos}
+use borrow.Author.Differences.{le-true}
+use Rattle.cds_base.specs.declared.event.Event.{Event}
+use Rattle.cds_base.specs.declared.cluster.Part.{Part}
+use Rattle.cds_base.specs.declared.cluster.Cluster.{Cluster}
+use Rattle.cds_base.specs.Tiles.{Tiles}
+use Rattle.cds_trace.specs.Signal.{Signal, IsTrace, sample_at}
+use Rattle.cds_area.specs.Area.{span, height_by_span}
+use Rattle.cds_area.proofs.AreaLaws.{area-whole, area-not_negative, abs-sample-le}
+use Rattle.cds_baseline.specs.Chord.{chord_by_span, is_over}
+use Rattle.cds_baseline.specs.Cluster.{is_valley}
+use Rattle.cds_baseline.specs.Tangent.{tangent_sample}
+use Rattle.cds_events.specs.Standing.{IsPart, IsCluster}
+use Rattle.cds_integrate.specs.declared.shapes.Shape.{Shape}
+use Rattle.cds_integrate.specs.Lines.{chord, last_up_to, first_behind}
+use Rattle.cds_integrate.specs.Shapes.{skims, is_covered, nodes_of, is_skimmed, is_rider, rider_shape, plain_shape, shape_of}
+use Rattle.cds_integrate.specs.Measures.{twice_whole_area}
+use Rattle.cds_integrate.specs.Standing.{from_reach, IsOver, IsShape, InRow}
+use Rattle.cds_integrate.proofs.PartLaws.{IsClear, tiles-order, part-within, clear-at}
+use Rattle.cds_integrate.proofs.NodeLaws.{IsNextNode, last_up_to-low, next-node}
+use Rattle.cds_integrate.proofs.RowLaws.{reach-on, reach-end}
+
+-- of numbers whose multiple by a number above 0 isn't negative none is negative
+times-sign : (z : ℤ) (s : ℕ) → 0 < s → pos 0 ≤ℤ (z *ℤ pos s) → pos 0 ≤ℤ z
+times-sign (pos n) s some h = omega (arith, ints)
+times-sign (negsuc n) s some h = absurd (omega (arith, ints, mul-pos {m = suc n} {n = s} (omega arith) some))
+
+-- a chord under which no sample lies has an area that isn't negative
+pub twice-not_negative : (signal : Signal) (v j : ℕ) → v < j → j < length signal.samples →
+    ((k : ℕ) → v ≤ k → k ≤ j → is_over signal v j k ≡ true) → pos 0 ≤ℤ twice_whole_area signal (chord signal v j)
+twice-not_negative signal v j order inside over =
+    let line = chord signal v j in
+    let high : (k : ℕ) → k ≤ j - v → pos 0 ≤ℤ height_by_span signal line (v + k) =
+    λ k below. omega (arith, ints, le-true (chord_by_span signal v j (v + k)) (sample_at signal (v + k) *ℤ pos (j - v)) (over (v + k) (omega arith) (omega arith))) in
+    let whole = area-whole signal line (omega arith) inside in
+    let sum = area-not_negative signal line v (j - v) high in
+    times-sign (twice_whole_area signal line) (span line) (omega arith) (rw whole at sum)
+
+-- a part of the baseline lies on its line
+pub plain-is : (signal : Signal) (nodes : List ℕ) (part : Part) → IsTrace signal → IsPart signal part → part.start < part.end →
+    part.end ≤ first_behind nodes part.start → first_behind nodes part.start < length signal.samples → IsShape signal (plain_shape signal nodes part)
+plain-is signal nodes part trace is order clear within =
+    let low : last_up_to nodes part.start ≤ part.start = last_up_to-low nodes part.start 0 (omega arith) in
+    record {
+      low = is.low;
+      high = is.high;
+      order = order;
+      reaches = omega arith;
+      from = low;
+      to = clear;
+      within = within;
+      levels = (
+        abs-sample-le signal 100000000 (last_up_to nodes part.start) trace (omega (arith, ints)) (omega (arith, low, order, clear, within)),
+        abs-sample-le signal 100000000 (first_behind nodes part.start) trace (omega (arith, ints)) within,
+      );
+      crest = is.crest;
+      whole = λ is. absurd (grind (arith, common_steps));
+      over = λ is. absurd (grind (arith, common_steps));
+    }
+
+-- and so does a rider
+pub rider-is : (signal : Signal) (part : Part) → IsTrace signal → part.end < length signal.samples → IsPart signal part → part.start < part.end →
+    part.start < tangent_sample signal part.start part.end → tangent_sample signal part.start part.end ≤ part.end → part.apex < tangent_sample signal part.start part.end →
+    ((k : ℕ) → part.start ≤ k → k ≤ tangent_sample signal part.start part.end → is_over signal part.start (tangent_sample signal part.start part.end) k ≡ true) →
+    IsShape signal (rider_shape signal part)
+rider-is signal part trace within is order beyond inside high over =
+    let j : ℕ = tangent_sample signal part.start part.end in
+    record {
+      low = is.low;
+      high = omega (arith, high);
+      order = beyond;
+      reaches = inside;
+      from = omega arith;
+      to = omega arith;
+      within = omega (arith, inside, within);
+      levels = (
+        abs-sample-le signal 100000000 part.start trace (omega (arith, ints)) (omega (arith, order, within)),
+        abs-sample-le signal 100000000 j trace (omega (arith, ints)) (omega (arith, inside, within)),
+      );
+      crest = λ rises falls. is.crest rises (omega (arith, falls, inside));
+      whole = λ _. refl;
+      over = λ _. twice-not_negative signal part.start j beyond (omega (arith, inside, within)) over;
+    }
+
+free-of : (b : Bool) → not b ≡ true → b ≡ false
+free-of true h = sym h
+free-of false h = refl
+
+-- a rider doesn't begin at a node
+pub rider-apart : (signal : Signal) (events : List Event) (nodes : List ℕ) (part : Part) → is_rider signal events nodes part ≡ true →
+    list_any (λ other. other == part.start) nodes ≡ false
+rider-apart signal events nodes part is =
+    let skim : Bool = list_any (skims (part.start * signal.period)) events in
+    let node : Bool = list_any (λ other. other == part.start) nodes in
+    let skimmed = (and_parts (is_skimmed signal events nodes part) (nat_lt part.apex (tangent_sample signal part.start part.end)) is).0 in
+    let rest = (and_parts (is_valley part.left) (skim && not node) skimmed).1 in
+    let free = (and_parts skim (not node) rest).1 in
+    free-of node free
+
+-- riders ahead reach no farther than a node that doesn't lie before them
+pub reach-clear : (signal : Signal) (events : List Event) (nodes : List ℕ) (node reach start end : ℕ) (parts : List Part) → Tiles start parts end →
+    reach ≤ node → start ≤ node → IsClear parts node → list_any (λ other. other == node) nodes ≡ true →
+    from_reach reach (map (shape_of signal events nodes) parts) ≤ node
+reach-clear signal events nodes node reach start end [] tiled low at clear among = low
+reach-clear signal events nodes node reach start end (part ∷ parts) tiled low at clear among =
+    elim (cases_Bool (is_rider signal events nodes part)) [
+      | inl is ↦
+          let shape : shape_of signal events nodes part ≡ rider_shape signal part = rw is refl in
+          let beyond : part.end ≤ node = elim clear.0 [
+            | inl before ↦
+                let same : part.start ≡ node = omega (arith, tiled.0, before, at) in
+                let apart : list_any (λ other. other == part.start) nodes ≡ false = rider-apart signal events nodes part is in
+                absurd (grind (arith, common_steps, among, rw same at apart))
+            | inr behind ↦ behind
+          ] in
+          rw (shape, reach-on reach (rider_shape signal part) (map (shape_of signal events nodes) parts) refl)
+          (reach-clear signal events nodes node part.end part.end end parts tiled.2 beyond beyond clear.1 among)
+      | inr other ↦
+          let shape : shape_of signal events nodes part ≡ plain_shape signal nodes part = rw other refl in
+          rw (shape, reach-end reach (plain_shape signal nodes part) (map (shape_of signal events nodes) parts) refl) low
+    ]
+
+-- the parts of a cluster stand in a row, each on a line that reaches as far as its area goes
+pub row-of : (signal : Signal) (events : List Event) (nodes : List ℕ) (every : List Part) (end : ℕ) →
+    ((at : ℕ) → at < end → IsNextNode nodes every end at (first_behind nodes at)) →
+    (start : ℕ) (parts : List Part) → Tiles start parts end → ((n : ℕ) → IsClear every n → IsClear parts n) →
+    All (IsShape signal) (map (shape_of signal events nodes) parts) →
+    InRow signal start (map (shape_of signal events nodes) parts) end
+row-of signal events nodes every end next start [] tiled clear shapes = tiled
+row-of signal events nodes every end next start (part ∷ parts) tiled clear shapes =
+    let later : List Shape = map (shape_of signal events nodes) parts in
+    let inside = tiles-order part.end end parts tiled.2 in
+    let node = next part.start (omega (arith, tiled.0, tiled.1, inside)) in
+    let here = clear (first_behind nodes part.start) node.clear in
+    let rest = row-of signal events nodes every end next part.end parts tiled.2 (λ n h. (clear n h).1) (λ k d below. shapes (suc k) d (omega arith)) in
+    let first : IsShape signal (shape_of signal events nodes part) = shapes 0 (shape_of signal events nodes part) (omega arith) in
+    elim (cases_Bool (is_rider signal events nodes part)) [
+      | inl is ↦
+          let shape : shape_of signal events nodes part ≡ rider_shape signal part = rw is refl in
+          rw shape (tiled.0, rw shape at first, omega arith, rest)
+      | inr other ↦
+          let shape : shape_of signal events nodes part ≡ plain_shape signal nodes part = rw other refl in
+          let beyond : part.end ≤ first_behind nodes part.start = elim here.0 [
+            | inl before ↦ absurd (omega (arith, before, node.behind))
+            | inr behind ↦ behind
+          ] in
+          rw shape (tiled.0, rw shape at first, reach-clear signal events nodes (first_behind nodes part.start) part.end part.end end parts tiled.2 beyond beyond here.1 node.among, rest)
+    ]
+
+-- the node behind each sample of a cluster
+pub cluster-next : (signal : Signal) (events : List Event) (cluster : Cluster) → IsCluster signal 0 cluster → (at : ℕ) → at < cluster.end →
+    IsNextNode (nodes_of signal events cluster) cluster.parts cluster.end at (first_behind (nodes_of signal events cluster) at)
+cluster-next signal events cluster is at before =
+    next-node signal cluster (map (is_covered signal events) cluster.parts) at is.some is.tiled (length-map cluster.parts (is_covered signal events)) before
+
+-- each part of a cluster stands over its baseline
+pub cluster-over : (signal : Signal) (events : List Event) (cluster : Cluster) → IsCluster signal 0 cluster →
+    All (IsOver signal (nodes_of signal events cluster)) cluster.parts
+cluster-over signal events cluster is k d below =
+    let part : Part = slice_index_or cluster.parts k d in
+    let here = part-within cluster.start cluster.end k cluster.parts d is.tiled below in
+    let node = cluster-next signal events cluster is part.start (omega (arith, here.1, here.2)) in
+    record {
+      part_is = is.parts k d below;
+      order = here.1;
+      clear = elim (clear-at (first_behind (nodes_of signal events cluster) part.start) k cluster.parts d node.clear below) [
+        | inl before ↦ absurd (omega (arith, before, node.behind))
+        | inr behind ↦ behind
+      ];
+      within = omega (arith, node.within, is.ends);
+    }

@@ -1,0 +1,91 @@
+-- The peaks of a row: the parts that aren't rejected, each with its widths, its valley and its name. This project's own rules.
+use Rattle.std.specs.Prelude.{◌≡◌, ℕ, suc, ◌-◌, ◌*◌, ◌&&◌, ◌==◌, Bool, false, not, List, [], ◌∷◌, Option, Some, None, length, ℤ, pos, int_lt, if◌then◌else◌}
+use Rattle.std.specs.List.{filter, find, range_with_len}
+use Rattle.cds_base.specs.declared.peak.Ratio.{Ratio}
+use Rattle.cds_base.specs.declared.peak.Peak.{Peak}
+use Rattle.cds_rules.specs.declared.method.Method.{Method}
+use Rattle.cds_trace.specs.Signal.{Signal}
+use Rattle.cds_area.specs.Area.{IsRatio, span, height_by_span}
+use Rattle.cds_names.specs.Naming.{peak_of}
+use Rattle.cds_figures.specs.Crossings.{crossings_of}
+use Rattle.cds_integrate.specs.declared.shapes.Shape.{Shape}
+use Rattle.cds_integrate.specs.declared.measures.Measured.{Measured}
+use Rattle.cds_integrate.specs.declared.found.Found.{Found}
+use Rattle.cds_integrate.specs.Measures.{reported_area, is_rejected}
+
+-- each part with the one before it in its cluster, if there is one
+abbrev pub with_before : Option Measured → List Measured → List Found
+with_before before [] = []
+with_before before (part ∷ parts) = record { before = before; part = part } ∷ with_before (Some part) parts
+
+-- those of parts that aren't rejected
+abbrev pub kept_of : Signal → Method → List Found → List Found
+kept_of signal method parts = filter (λ found. not (is_rejected signal method found.part)) parts
+
+-- the parts of a cluster that aren't rejected
+abbrev pub accepted : Signal → Method → List Measured → List Found
+accepted signal method parts = kept_of signal method (with_before None parts)
+
+-- the height of a part's left end above its line, times the line's span
+abbrev pub boundary_height : Signal → Measured → ℤ
+boundary_height signal part = height_by_span signal part.shape.line part.shape.start
+
+-- the boundary of two parts in a row is a valley of the second one: neither is a rider, the first isn't rejected, and the
+-- boundary lies above the line
+abbrev pub is_valley_between : Signal → Method → Measured → Measured → Bool
+is_valley_between signal method before part =
+    (not before.shape.rider && not part.shape.rider)
+    && (not (is_rejected signal method before) && int_lt (pos 0) (boundary_height signal part))
+
+-- the part before a peak, where the boundary of the two is a valley
+abbrev pub neighbour : Signal → Method → Option Measured → Measured → Option Measured
+neighbour signal method None part = None
+neighbour signal method (Some before) part = if is_valley_between signal method before part then Some before else None
+
+-- the height of that part and the height of the boundary, where there is such a part
+abbrev pub IsValley : Signal → Measured → Option Measured → Option (Ratio × Ratio) → Type 0
+IsValley signal part None None = Unit {0}
+IsValley signal part None (Some heights) = ⊥
+IsValley signal part (Some before) None = ⊥
+IsValley signal part (Some before) (Some heights) =
+    IsRatio heights.0 before.height (span before.shape.line)
+    × IsRatio heights.1 (boundary_height signal part) (span part.shape.line)
+
+-- the crossings of a peak at so many twentieths of its height
+abbrev pub crossings_at : Signal → Shape → ℕ → Option (ℕ × ℕ)
+crossings_at signal shape twentieths = crossings_of signal shape.line shape.start shape.apex shape.end twentieths
+
+-- what a row says of a part that isn't rejected, and of its component
+pub record IsPeak (signal : Signal) (method : Method) (component : Option ℕ) (found : Found) (peak : Peak) : Type 0 where
+  pub start : peak.start ≡ found.part.shape.start
+  pub apex : peak.apex ≡ found.part.shape.apex
+  pub end : peak.end ≡ found.part.shape.end
+  pub rider : peak.rider ≡ found.part.shape.rider
+  pub line : peak.line ≡ found.part.shape.line
+  -- its exact area and height
+  pub area : IsRatio peak.area found.part.area (2 * span found.part.shape.line)
+  pub height : IsRatio peak.height found.part.height (span found.part.shape.line)
+  -- its reported area
+  pub units : peak.units ≡ reported_area signal found.part
+  -- where it crosses half its height and one twentieth of it
+  pub half : peak.half ≡ crossings_at signal found.part.shape 10
+  pub twentieth : peak.twentieth ≡ crossings_at signal found.part.shape 1
+  pub valley : IsValley signal found.part (neighbour signal method found.before found.part) peak.valley
+  pub component_is : peak.component ≡ component
+
+-- a component's entry in a naming gives it the peak at this place
+abbrev pub gives : ℕ → Option ℕ → Bool
+gives place None = false
+gives place (Some peak) = peak == place
+
+-- the number, from 1, of the component that the peak at this place is named
+abbrev pub component_of : List (Option ℕ) → ℕ → Option ℕ
+component_of naming place = find (λ number. gives place (peak_of naming (number - 1))) (range_with_len 1 (length naming))
+
+-- the peaks of a row, in their order, from this place on
+abbrev pub ArePeaks : Signal → Method → List (Option ℕ) → ℕ → List Found → List Peak → Type 0
+ArePeaks signal method naming place [] [] = Unit {0}
+ArePeaks signal method naming place [] (peak ∷ peaks) = ⊥
+ArePeaks signal method naming place (found ∷ rest) [] = ⊥
+ArePeaks signal method naming place (found ∷ rest) (peak ∷ peaks) =
+    IsPeak signal method (component_of naming place) found peak × ArePeaks signal method naming (suc place) rest peaks

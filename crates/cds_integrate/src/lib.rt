@@ -1,0 +1,19 @@
+//! A row of results from a trace and a method: its peaks, with exact areas and heights, widths and names.
+//!
+//! Begin at [`row`]: it is the only call that makes a [`RowPart`].
+#![tactic(auto)]
+
+mod found;
+mod lines;
+mod measures;
+mod naming;
+mod peaks;
+mod row_part;
+mod rows;
+mod shapes;
+
+pub use row_part::{PeakList, RowPart};
+pub use rows::row;
+
+#[cfg(test)]
+mod tests;

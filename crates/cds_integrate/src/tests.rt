@@ -1,0 +1,529 @@
+ghost use Rattle.std.specs.Prelude.{◌≡◌, ◌<◌};
+
+use super::*;
+use cds_base::{Event, Peak, Ratio, Steps};
+use cds_rules::Method;
+use cds_trace::Trace;
+use std::alloc::Global;
+use std::marker::Brand;
+use std::sync::ledger::{Blank, Ledger};
+use std::test::Fail;
+
+const ONE: &[i32] = &[0, 0, 0, 10, 40, 60, 40, 10, 0, 0, 0];
+
+const TWO: &[i32] = &[0, 0, 0, 10, 40, 60, 40, 20, 40, 60, 40, 10, 0, 0, 0];
+
+// The valley of two peaks lies under the line between their outer ends.
+const DEEP: &[i32] = &[50, 50, 50, 60, 90, 110, 60, 20, 60, 110, 90, 60, 50, 50, 50];
+
+// The valley of two peaks lies above half of their height.
+const HIGH: &[i32] = &[0, 0, 0, 10, 40, 60, 50, 40, 50, 60, 40, 10, 0, 0, 0];
+
+const PLAIN: &str =
+    "bunch = 1\nslope_on = 5\nslope_off = 5\nplateau = 3\nfuse = 2\nmin_area = 1\nmin_height = 1\nweight = \"equal\"\nrules = 1\n";
+
+const LARGE: &str =
+    "bunch = 1\nslope_on = 5\nslope_off = 5\nplateau = 3\nfuse = 2\nmin_area = 160001\nmin_height = 1\nweight = \"equal\"\nrules = 1\n";
+
+const MIDDLE: &str =
+    "bunch = 1\nslope_on = 5\nslope_off = 5\nplateau = 3\nfuse = 2\nmin_area = 30001\nmin_height = 1\nweight = \"equal\"\nrules = 1\n";
+
+const TALL: &str =
+    "bunch = 1\nslope_on = 5\nslope_off = 5\nplateau = 3\nfuse = 2\nmin_area = 1\nmin_height = 61\nweight = \"equal\"\nrules = 1\n";
+
+const EARLY_LATE: &str =
+    "bunch = 1\nslope_on = 5\nslope_off = 5\nplateau = 3\nfuse = 2\nmin_area = 1\nmin_height = 1\nweight = \"equal\"\nrules = 1
+[[component]]\nname = \"a\"\ntime_ms = 4500\nwindow_ms = 1000
+[[component]]\nname = \"c\"\ntime_ms = 5500\nwindow_ms = 1000\n";
+
+const BETWEEN: &str =
+    "bunch = 1\nslope_on = 5\nslope_off = 5\nplateau = 3\nfuse = 2\nmin_area = 1\nmin_height = 1\nweight = \"equal\"\nrules = 1
+[[component]]\nname = \"k\"\ntime_ms = 7000\nwindow_ms = 2000\n";
+
+const BETWEEN_AND_BEFORE: &str =
+    "bunch = 1\nslope_on = 5\nslope_off = 5\nplateau = 3\nfuse = 2\nmin_area = 1\nmin_height = 1\nweight = \"equal\"\nrules = 1
+[[component]]\nname = \"k\"\ntime_ms = 7000\nwindow_ms = 2000
+[[component]]\nname = \"l\"\ntime_ms = 6500\nwindow_ms = 2500\n";
+
+/// A peak that is wanted: start, apex and end; the ends of its line, and whether it is a rider; its area in count samples;
+/// its height as a fraction; its crossings at half height and at one twentieth; the heights of its valley; its component.
+struct Wanted {
+    range: (u32, u32, u32),
+    line: (u32, u32),
+    rider: bool,
+    area: i128,
+    height: (i128, u64),
+    half: Option<(u64, u64)>,
+    twentieth: Option<(u64, u64)>,
+    valley: Option<(i128, i128)>,
+    component: Option<u32>,
+}
+
+/// What a row shows; its samples, one a second; its method; its manual events; its peaks.
+type Row = (
+    &'static str,
+    &'static [i32],
+    &'static str,
+    &'static [Event],
+    &'static [Wanted],
+);
+
+const PEAK: Wanted = Wanted {
+    range: (1, 5, 8),
+    line: (1, 8),
+    rider: false,
+    area: 160,
+    height: (60, 1),
+    half: Some((3_666_666, 6_333_333)),
+    twentieth: Some((2_300_000, 7_700_000)),
+    valley: None,
+    component: None,
+};
+
+const FIRST: Wanted = Wanted {
+    range: (1, 5, 7),
+    line: (1, 12),
+    rider: false,
+    area: 160,
+    height: (60, 1),
+    half: Some((3_666_666, 6_500_000)),
+    twentieth: None,
+    valley: None,
+    component: None,
+};
+
+const SECOND: Wanted = Wanted {
+    range: (7, 9, 12),
+    line: (1, 12),
+    rider: false,
+    area: 160,
+    height: (60, 1),
+    half: Some((7_500_000, 10_333_333)),
+    twentieth: None,
+    valley: Some((60, 20)),
+    component: None,
+};
+
+const RIDER: Wanted = Wanted {
+    range: (7, 9, 12),
+    line: (7, 12),
+    rider: true,
+    area: 110,
+    height: (48, 1),
+    half: Some((8_000_000, 10_307_692)),
+    twentieth: Some((7_100_000, 11_600_000)),
+    valley: None,
+    component: None,
+};
+
+const DEEP_FIRST: Wanted = Wanted {
+    range: (1, 5, 7),
+    line: (1, 7),
+    rider: false,
+    area: 195,
+    height: (80, 1),
+    half: Some((3_571_428, 5_888_888)),
+    twentieth: Some((1_800_000, 6_885_714)),
+    valley: None,
+    component: None,
+};
+
+const DEEP_SECOND: Wanted = Wanted {
+    range: (7, 9, 12),
+    line: (7, 12),
+    rider: false,
+    area: 180,
+    height: (78, 1),
+    half: Some((8_113_636, 10_361_111)),
+    twentieth: Some((7_114_705, 11_756_250)),
+    valley: None,
+    component: None,
+};
+
+const ROWS: [Row; 20] = [
+    ("one peak", ONE, PLAIN, &[], &[PEAK]),
+    ("two fused peaks", TWO, PLAIN, &[], &[FIRST, SECOND]),
+    (
+        "a valley event bends the baseline",
+        TWO,
+        PLAIN,
+        &[Event::Valley {
+            from: 7000,
+            to: 7001,
+        }],
+        &[
+            Wanted {
+                range: (1, 5, 7),
+                line: (1, 7),
+                rider: false,
+                area: 100,
+                height: (140, 3),
+                half: Some((3_750_000, 6_000_000)),
+                twentieth: Some((2_850_000, 6_900_000)),
+                valley: None,
+                component: None,
+            },
+            Wanted {
+                range: (7, 9, 12),
+                line: (7, 12),
+                rider: false,
+                area: 110,
+                height: (48, 1),
+                half: Some((8_000_000, 10_307_692)),
+                twentieth: Some((7_100_000, 11_600_000)),
+                valley: None,
+                component: None,
+            },
+        ],
+    ),
+    (
+        "a skim event takes the rider out of its parent",
+        TWO,
+        PLAIN,
+        &[Event::Skim {
+            from: 7000,
+            to: 7001,
+        }],
+        &[
+            Wanted {
+                range: (1, 5, 7),
+                line: (1, 12),
+                rider: false,
+                area: 210,
+                height: (60, 1),
+                half: Some((3_666_666, 6_500_000)),
+                twentieth: None,
+                valley: None,
+                component: None,
+            },
+            RIDER,
+        ],
+    ),
+    (
+        "a valley under the line is a node",
+        DEEP,
+        PLAIN,
+        &[],
+        &[DEEP_FIRST, DEEP_SECOND],
+    ),
+    (
+        "a skim event on a node has no effect",
+        DEEP,
+        PLAIN,
+        &[Event::Skim {
+            from: 7000,
+            to: 7001,
+        }],
+        &[DEEP_FIRST, DEEP_SECOND],
+    ),
+    ("two samples", &[7, 7], PLAIN, &[], &[]),
+    (
+        "a peak behind a climb that was abandoned",
+        &[0, 0, 10, 10, 10, 10, 10, 10, 20, 40, 20, 10, 10, 10],
+        PLAIN,
+        &[],
+        &[Wanted {
+            range: (6, 9, 11),
+            line: (6, 11),
+            rider: false,
+            area: 50,
+            height: (30, 1),
+            half: Some((8_250_000, 9_750_000)),
+            twentieth: Some((7_150_000, 10_850_000)),
+            valley: None,
+            component: None,
+        }],
+    ),
+    (
+        "a peak that ends with the trace",
+        &[0, 0, 0, 20, 60, 100, 80, 60, 40],
+        PLAIN,
+        &[],
+        &[Wanted {
+            range: (1, 5, 8),
+            line: (1, 8),
+            rider: false,
+            area: 200,
+            height: (540, 7),
+            half: Some((3_875_000, 6_500_000)),
+            twentieth: Some((2_670_000, 7_850_000)),
+            valley: None,
+            component: None,
+        }],
+    ),
+    (
+        "of two components as far from a peak the first has it",
+        ONE,
+        EARLY_LATE,
+        &[],
+        &[Wanted {
+            range: (1, 5, 8),
+            line: (1, 8),
+            rider: false,
+            area: 160,
+            height: (60, 1),
+            half: Some((3_666_666, 6_333_333)),
+            twentieth: Some((2_300_000, 7_700_000)),
+            valley: None,
+            component: Some(1),
+        }],
+    ),
+    (
+        "of two peaks as far from a component it has the first",
+        TWO,
+        BETWEEN,
+        &[],
+        &[
+            Wanted {
+                range: (1, 5, 7),
+                line: (1, 12),
+                rider: false,
+                area: 160,
+                height: (60, 1),
+                half: Some((3_666_666, 6_500_000)),
+                twentieth: None,
+                valley: None,
+                component: Some(1),
+            },
+            SECOND,
+        ],
+    ),
+    (
+        "a nearer component takes a peak",
+        TWO,
+        BETWEEN_AND_BEFORE,
+        &[],
+        &[
+            Wanted {
+                range: (1, 5, 7),
+                line: (1, 12),
+                rider: false,
+                area: 160,
+                height: (60, 1),
+                half: Some((3_666_666, 6_500_000)),
+                twentieth: None,
+                valley: None,
+                component: Some(2),
+            },
+            Wanted {
+                range: (7, 9, 12),
+                line: (1, 12),
+                rider: false,
+                area: 160,
+                height: (60, 1),
+                half: Some((7_500_000, 10_333_333)),
+                twentieth: None,
+                valley: Some((60, 20)),
+                component: Some(1),
+            },
+        ],
+    ),
+    (
+        "a valley above half height cuts both widths",
+        HIGH,
+        PLAIN,
+        &[],
+        &[
+            Wanted {
+                range: (1, 5, 7),
+                line: (1, 12),
+                rider: false,
+                area: 180,
+                height: (60, 1),
+                half: None,
+                twentieth: None,
+                valley: None,
+                component: None,
+            },
+            Wanted {
+                range: (7, 9, 12),
+                line: (1, 12),
+                rider: false,
+                area: 180,
+                height: (60, 1),
+                half: None,
+                twentieth: None,
+                valley: Some((60, 40)),
+                component: None,
+            },
+        ],
+    ),
+    (
+        "a drop line cuts a peak",
+        ONE,
+        PLAIN,
+        &[Event::Drop { at: 6000 }],
+        &[
+            Wanted {
+                range: (1, 5, 6),
+                line: (1, 8),
+                rider: false,
+                area: 130,
+                height: (60, 1),
+                half: None,
+                twentieth: None,
+                valley: None,
+                component: None,
+            },
+            Wanted {
+                range: (6, 6, 8),
+                line: (1, 8),
+                rider: false,
+                area: 30,
+                height: (40, 1),
+                half: None,
+                twentieth: None,
+                valley: Some((60, 40)),
+                component: None,
+            },
+        ],
+    ),
+    (
+        "no valley behind a part that is rejected",
+        ONE,
+        MIDDLE,
+        &[Event::Drop { at: 4000 }],
+        &[Wanted {
+            range: (4, 5, 8),
+            line: (1, 8),
+            rider: false,
+            area: 130,
+            height: (60, 1),
+            half: None,
+            twentieth: None,
+            valley: None,
+            component: None,
+        }],
+    ),
+    (
+        "a forced baseline",
+        ONE,
+        PLAIN,
+        &[Event::Baseline {
+            from: 2000,
+            to: 7000,
+        }],
+        &[Wanted {
+            range: (2, 5, 7),
+            line: (2, 7),
+            rider: false,
+            area: 130,
+            height: (54, 1),
+            half: Some((3_678_571, 6_156_250)),
+            twentieth: Some((2_337_500, 6_915_625)),
+            valley: None,
+            component: None,
+        }],
+    ),
+    (
+        "slopes that no rise reaches",
+        ONE,
+        PLAIN,
+        &[Event::Slope {
+            at: 0,
+            on: 30,
+            off: 5,
+        }],
+        &[],
+    ),
+    ("a part below the least area", ONE, LARGE, &[], &[]),
+    ("a part below the least height", ONE, TALL, &[], &[]),
+    (
+        "an inhibited rise",
+        ONE,
+        PLAIN,
+        &[Event::Inhibit { from: 0, to: 6000 }],
+        &[],
+    ),
+];
+
+fn row_by<L: Ledger>(
+    alloc: Global,
+    blank: Blank,
+    samples: &[i32],
+    method: &[u8],
+    manual: &[Event],
+) -> Result<RowPart, Fail>
+    requires name { blank.name ≡ L.name }
+    requires parts { blank.parts ≡ L.parts }
+    requires some { 0 < blank.parts }
+{
+    let mut steps: Steps<L> = Steps::new(blank);
+    let trace = Trace::from_samples(alloc, 1_000_000, samples)?;
+    let method = Method::read_toml(alloc, method)?;
+    Ok(row(alloc, &trace, &method, manual, &mut steps)?)
+}
+
+fn row_of(
+    alloc: Global,
+    samples: &[i32],
+    method: &[u8],
+    manual: &[Event],
+) -> Result<RowPart, Fail> {
+    row_by::<Brand>(alloc, Blank::new(1), samples, method, manual)
+}
+
+// Whether a ratio is this fraction.
+fn is_ratio(ratio: Ratio, num: i128, den: u64) -> bool {
+    ratio.num.checked_mul(i128::from(den)) == num.checked_mul(i128::from(ratio.den))
+}
+
+// Whether the heights of a valley are these.
+fn is_valley(valley: Option<(Ratio, Ratio)>, wanted: Option<(i128, i128)>) -> bool {
+    match (valley, wanted) {
+        (Some((before, boundary)), Some((first, second))) => {
+            is_ratio(before, first, 1) && is_ratio(boundary, second, 1)
+        }
+        (None, None) => true,
+        _ => false,
+    }
+}
+
+// Whether the numbers of a peak are those that are wanted.
+fn is_measured(peak: &Peak, wanted: &Wanted) -> bool {
+    is_ratio(peak.area, wanted.area, 1)
+        && wanted.area.checked_mul(1000) == Some(i128::from(peak.units))
+        && is_ratio(peak.height, wanted.height.0, wanted.height.1)
+        && is_valley(peak.valley, wanted.valley)
+}
+
+#[test]
+fn rows_are_those_worked_out_by_hand(rt: HostRuntime) -> Result<(), Fail> {
+    for (shows, samples, method, manual, wanted) in ROWS {
+        let got = row_of(rt.alloc(), samples, method.as_bytes(), manual)?;
+        assert_eq!(rt; got.too_many(), 0, "{shows}");
+        assert_eq!(rt; got.peaks().len(), wanted.len(), "{shows}");
+        for (peak, want) in got.peaks().iter().zip(wanted) {
+            assert_eq!(rt; (peak.start, peak.apex, peak.end), want.range, "{shows}");
+            assert_eq!(rt; (peak.line.from, peak.line.to), want.line, "{shows}");
+            assert_eq!(rt;
+                (peak.rider, peak.component),
+                (want.rider, want.component),
+                "{shows}"
+            );
+            assert_eq!(rt;
+                (peak.half, peak.twentieth),
+                (want.half, want.twentieth),
+                "{shows}"
+            );
+            assert!(rt; is_measured(peak, want), "{shows}");
+        }
+    }
+    Ok(())
+}
+
+#[test]
+fn a_row_has_at_most_five_hundred_raw_peaks(rt: HostRuntime) -> Result<(), Fail> {
+    let mut samples = Vec::new(rt.alloc());
+    for _ in 0..500 {
+        samples.extend_from_slice(ONE)?;
+    }
+    let most = row_of(rt.alloc(), &samples, PLAIN.as_bytes(), &[])?;
+    assert_eq!(rt; (most.too_many(), most.peaks().len()), (0, 500));
+    let last = most.peaks().last().ok_or("there is no peak")?;
+    assert_eq!(rt; (last.start, last.units), (5490, 160_000));
+    samples.extend_from_slice(ONE)?;
+    let more = row_of(rt.alloc(), &samples, PLAIN.as_bytes(), &[])?;
+    assert_eq!(rt; (more.too_many(), more.peaks().len()), (501, 0));
+    Ok(())
+}
