@@ -299,12 +299,11 @@ fn a_trace_is_put_and_read_however_the_stream_is_cut(rt: HostRuntime) -> Result<
         ),
     ];
     for (bytes, responses) in rows {
-        let mut piece = bytes.len();
-        while 0 < piece {
+        for less in 0..bytes.len() {
+            let piece = bytes.len() - less;
             let (status, written) = session(rt.alloc(), bytes.as_bytes(), piece, &[])?;
             assert_eq!(rt; written.as_slice(), responses.as_bytes());
             assert_eq!(rt; status, 0);
-            piece -= 1;
         }
     }
     Ok(())
