@@ -98,7 +98,7 @@ IsUnread before now from to =
     (items : List Item) × Served before now from to false items × (is_refused items ≡ false) × (is_closed items ≡ false)
 
 -- The sink failed at an item: those before it were served whole, and of what is written for it a front stands in the
--- sink. However the stream goes on, its items begin with them.
+-- sink. The items of the bytes that were read begin with them.
 pub record IsBroken (before now : World) (from to : Reading) : Type 0 where
   pub bytes : List ℕ
   pub ended : Bool
