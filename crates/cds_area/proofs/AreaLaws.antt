@@ -9,7 +9,8 @@ use Rattle.std.proofs.lemmas.List.Sums.{fold_more}
 use Rattle.cds_base.specs.declared.peak.Line.{Line}
 use Rattle.cds_trace.specs.Signal.{Signal, IsSample, IsTrace, sample_at, sum_between}
 use Rattle.cds_trace.specs.declared.trace.TheConstants.{GREATEST_SAMPLE}
-use Rattle.cds_area.specs.Area.{span, level_by_span, height_by_span, sum_over, trapezoid, area_by_double_span}
+use Rattle.cds_trace.specs.Heights.{span, level_by_span, height_by_span}
+use Rattle.cds_area.specs.Area.{sum_over, trapezoid, area_by_double_span}
 use Rattle.cds_area.proofs.LineLaws.{add-mul, neg-mul, level-next, abs-level-le, abs-mul-le}
 
 -- a sum over some indices and the next ones is the sum over all

@@ -5,7 +5,7 @@ use Rattle.std.proofs.lemmas.Int.{ints, unsigned_abs-mul}
 use borrow.Author.Differences.{sum_is_lem, neg_is}
 use Rattle.std.proofs.Math.Nat.{mul-le-mul_right}
 use Rattle.cds_base.specs.declared.peak.Line.{Line}
-use Rattle.cds_area.specs.Area.{span, level_by_span}
+use Rattle.cds_trace.specs.Heights.{span, level_by_span}
 
 -- a product with a whole number is at most the bound times that number
 pub abs-mul-le : (z : ℤ) (n most : ℕ) → unsigned_abs z ≤ most → unsigned_abs (z *ℤ pos n) ≤ most * n

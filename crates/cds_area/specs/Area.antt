@@ -3,23 +3,12 @@
 use Rattle.std.specs.Prelude.{◌≡◌, ℕ, zero, suc, ◌+◌, ◌-◌, ◌*◌, ◌/◌, ℤ, pos, ◌+ℤ◌, ◌-ℤ◌, ◌*ℤ◌, nat_abs}
 use Rattle.cds_base.specs.declared.peak.Line.{Line}
 use Rattle.cds_base.specs.declared.peak.Ratio.{Ratio}
-use Rattle.cds_trace.specs.Signal.{Signal, sample_at}
+use Rattle.cds_trace.specs.Signal.{Signal}
+use Rattle.cds_trace.specs.Heights.{span, height_by_span}
 
 -- the fraction is the number num / den: their cross products agree
 abbrev pub IsRatio : Ratio → ℤ → ℕ → Type 0
 IsRatio ratio num den = ratio.num *ℤ pos den ≡ num *ℤ pos ratio.den
-
--- how many samples lie from one end of a line to the other
-abbrev pub span : Line → ℕ
-span line = line.to - line.from
-
--- the level of a line at sample i, times its span: each end counts by the distance of i from the other end
-abbrev pub level_by_span : Line → ℕ → ℤ
-level_by_span line i = line.from_y *ℤ pos (line.to - i) +ℤ line.to_y *ℤ pos (i - line.from)
-
--- the height at sample i, which is the signal minus the line, times the line's span
-abbrev pub height_by_span : Signal → Line → ℕ → ℤ
-height_by_span signal line i = sample_at signal i *ℤ pos (span line) -ℤ level_by_span line i
 
 -- the sum of f over `count` indices in a row, the first of which is `start`
 abbrev pub sum_over : (ℕ → ℤ) → ℕ → ℕ → ℤ

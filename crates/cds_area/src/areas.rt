@@ -1,7 +1,8 @@
 ghost use Rattle.std.specs.Prelude.{◌≡◌, ◌+◌, ◌-◌, ◌*◌, ◌^◌, ◌<◌, ◌≤◌, ℕ, pos, ◌+ℤ◌, ◌-ℤ◌, ◌*ℤ◌, ◌≤ℤ◌, length, unsigned_abs};
 ghost use Rattle.cds_trace.specs.Signal.{sample_at, sum_between};
 ghost use Rattle.cds_trace.specs.declared.trace.TheConstants.{GREATEST_SAMPLE};
-ghost use Rattle.cds_area.specs.Area.{span, level_by_span, area_by_double_span, IsRatio};
+ghost use Rattle.cds_trace.specs.Heights.{span, level_by_span};
+ghost use Rattle.cds_area.specs.Area.{area_by_double_span, IsRatio};
 
 use crate::levels::{level_by_span, wide_product};
 use cds_base::{Line, Ratio, Steps};

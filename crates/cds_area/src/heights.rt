@@ -1,5 +1,6 @@
 ghost use Rattle.std.specs.Prelude.{◌≡◌, ◌+◌, ◌-◌, ◌*◌, ◌^◌, ◌<◌, ◌≤◌, ℕ, pos, ◌*ℤ◌, ◌≤ℤ◌, length, unsigned_abs};
-ghost use Rattle.cds_area.specs.Area.{span, height_by_span, IsRatio};
+ghost use Rattle.cds_trace.specs.Heights.{span, height_by_span};
+ghost use Rattle.cds_area.specs.Area.{IsRatio};
 
 use crate::levels::{level_by_span, product};
 use cds_base::{Line, Ratio, Steps};

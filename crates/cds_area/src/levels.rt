@@ -1,5 +1,5 @@
 ghost use Rattle.std.specs.Prelude.{◌≡◌, ◌+◌, ◌-◌, ◌*◌, ◌^◌, ◌<◌, ◌≤◌, pos, ◌*ℤ◌, unsigned_abs};
-ghost use Rattle.cds_area.specs.Area.{span, level_by_span};
+ghost use Rattle.cds_trace.specs.Heights.{span, level_by_span};
 
 use cds_base::Line;
 

@@ -8,3 +8,5 @@ pub mod Clock
 pub mod Door
 pub mod MemDoor
 pub mod Tiles
+pub mod EventTime
+pub mod Search

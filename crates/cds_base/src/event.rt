@@ -1,7 +1,11 @@
 ghost use Rattle.std.specs.Prelude.{◌≡◌};
 ghost use Rattle.std.specs.Vec.{vec_len};
+ghost use Rattle.cds_base.specs.EventTime.{is_in_window};
 
 use std::marker::Model;
+
+/// A millisecond, in microseconds: times of events are in milliseconds, those of samples in microseconds.
+const MILLISECOND_US: u64 = 1000;
 
 /// A timed event of a method or of a row. Times are in milliseconds from the start of the trace; a window holds
 /// the times from `from` up to and without `to`. The meaning of each kind is this project's own.
@@ -19,6 +23,14 @@ pub enum Event {
     Slope { at: u32, on: u32, off: u32 },
     /// The peak behind a valley in the window is skimmed off by a tangent.
     Skim { from: u32, to: u32 },
+}
+
+/// Whether a time, in microseconds, lies in the window of an event from `from_ms` up to and without `to_ms`, in
+/// milliseconds. This project's own rule.
+pub fn is_in_window(from_ms: u32, to_ms: u32, time_us: u64) -> bool
+    ensures { result ≡ is_in_window from_ms to_ms time_us }
+{
+    MILLISECOND_US * u64::from(from_ms) <= time_us && time_us < MILLISECOND_US * u64::from(to_ms)
 }
 
 /// Timed events in their order. Seen as a list.

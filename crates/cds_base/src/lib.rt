@@ -27,7 +27,7 @@ pub use bytes::Bytes;
 pub use clock::{Clock, MOMENT_LIMIT};
 pub use cluster::{Boundary, Cluster, Part, PartList};
 pub use door::Door;
-pub use event::{Event, EventList};
+pub use event::{Event, EventList, is_in_window};
 pub use failed::Failed;
 pub use fixed_clock::FixedClock;
 pub use mem_door::MemDoor;

@@ -66,7 +66,7 @@ pub enum Missing {
 pub struct Peak {
     /// The first sample of its range.
     pub start: u32,
-    /// Its first greatest sample.
+    /// Its apex: the first greatest sample of its raw peak, or of the piece that a drop line cut off.
     pub apex: u32,
     /// The last sample of its range.
     pub end: u32,

@@ -15,7 +15,6 @@ use crate::limits::{
 use crate::tables::Tables;
 use cds_base::{Bytes, Name};
 use cds_trace::Trace;
-use std::alloc::Global;
 
 impl Tables {
     /// What a command comes to: Unchanged where the trace is equal to the latest version of its name, the text to
@@ -24,19 +23,19 @@ impl Tables {
     /// next one. Full is judged last: a trace may pass the limits on names, versions of the name, versions in all
     /// and samples in all, a draft that on methods, a freeze those on versions of the method and versions in all;
     /// the first one that is passed is answered. The tables stay as they are.
-    pub fn plan(&self, alloc: Global, command: &Command) -> Result<Plan, PlanError>
+    pub fn plan(&self, command: &Command) -> Result<Plan, PlanError>
         requires { IsCommand command.now }
         ensures value { Answers result (planned self.now.state command.now) }
         ensures accepted { AnswersAccepted self.now.state result }
     {
         match command {
-            Command::Trace { name, trace } => self.plan_trace(alloc, *name, trace),
-            Command::Draft { name, text } => self.plan_draft(alloc, *name, text),
+            Command::Trace { name, trace } => self.plan_trace(*name, trace),
+            Command::Draft { name, text } => self.plan_draft(*name, text),
             Command::Freeze { name, version } => self.plan_freeze(*name, *version),
         }
     }
 
-    fn plan_trace(&self, alloc: Global, name: Name, trace: &Trace) -> Result<Plan, PlanError>
+    fn plan_trace(&self, name: Name, trace: &Trace) -> Result<Plan, PlanError>
         ensures { Answers result (planned self.now.state (command.Trace name trace.now)) }
     {
         if is_latest_trace(self.signals(name), trace) {
@@ -45,7 +44,7 @@ impl Tables {
         if let Some(limit) = limit_passed(&self.trace_counts(name, trace)) {
             return Err(PlanError::Full(limit));
         }
-        let trace = trace.copy(alloc)?;
+        let trace = trace.copy()?;
         Ok(Plan::Change(Change::Trace { name, trace }))
     }
 
@@ -63,7 +62,7 @@ impl Tables {
         ]
     }
 
-    fn plan_draft(&self, alloc: Global, name: Name, text: &Bytes) -> Result<Plan, PlanError>
+    fn plan_draft(&self, name: Name, text: &Bytes) -> Result<Plan, PlanError>
         ensures { Answers result (planned self.now.state (command.Draft name text.now)) }
     {
         if is_draft(self.draft(name), text.as_slice()) {
@@ -72,7 +71,7 @@ impl Tables {
         if let Some(limit) = limit_passed(&self.draft_counts(name, text)) {
             return Err(PlanError::Full(limit));
         }
-        let text = Bytes::from_vec(Vec::from_slice(alloc, text.as_slice())?);
+        let text = Bytes::from_vec(Vec::from_slice(*self.methods.allocator(), text.as_slice())?);
         Ok(Plan::Change(Change::Draft { name, text }))
     }
 

@@ -26,7 +26,7 @@ enum Told {
 fn carry_out(alloc: Global, tables: &mut Tables, command: &Command) -> Result<Told, Fail>
     requires { IsCommand command.now }
 {
-    match tables.plan(alloc, command) {
+    match tables.plan(command) {
         Ok(Plan::Unchanged) => Ok(Told::Unchanged),
         Ok(Plan::Change(change)) => {
             tables.reserve(&change)?;
@@ -208,9 +208,9 @@ fn put_in_turn(
     let [first, second] = pair;
     for time in 0..times {
         let trace = if time % 2 == 0 {
-            first.copy(alloc)?
+            first.copy()?
         } else {
-            second.copy(alloc)?
+            second.copy()?
         };
         changed(carry_out(alloc, tables, &Command::Trace { name, trace })?)?;
     }

@@ -42,7 +42,7 @@ fn trace_record(alloc: Global, name: &Name, trace: &Trace) -> Result<Bytes, Allo
 {
     let mut bytes = begin(alloc, TRACE, name)?;
     bytes.extend_from_slice(&trace.period().to_be_bytes())?;
-    let samples = trace.record_samples(alloc)?;
+    let samples = trace.record_samples()?;
     bytes.extend_from_slice(samples.as_slice())?;
     Ok(Bytes::from_vec(bytes))
 }

@@ -114,7 +114,7 @@ fn plan_trace(alloc: Global, tables: &Tables, name: Name, trace: Trace) -> Resul
 {
     let samples = trace.len();
     let kept = tables.trace_versions(name).unwrap_or(0);
-    match tables.plan(alloc, &Command::Trace { name, trace }) {
+    match tables.plan(&Command::Trace { name, trace }) {
         Ok(Plan::Unchanged) => Ok(only(trace_reply(alloc, StatusCode::OK, samples, true, kept)?)),
         Ok(Plan::Change(change)) => Ok(Judged {
             reply: trace_reply(alloc, StatusCode::CREATED, samples, false, kept + 1)?,
@@ -181,7 +181,7 @@ fn trace_text(alloc: Global, tables: &Tables, name: Name, version: u32) -> Resul
             status: StatusCode::OK,
             content: Content::Csv,
             allow: None,
-            body: trace.write_csv(alloc)?,
+            body: trace.write_csv()?,
         });
     }
     if tables.trace_versions(name).is_some() {

@@ -3,13 +3,10 @@
 use Rattle.std.specs.Prelude.{ℕ, ◌*◌, ◌&&◌, Bool, false, List, [], ◌∷◌, Option, Some, None, nat_le, nat_lt, if◌then◌else◌}
 use Rattle.std.specs.List.{list_any}
 use Rattle.std.specs.Option.{unwrap_or}
+use Rattle.cds_base.specs.EventTime.{is_in_window}
 use Rattle.cds_base.specs.declared.event.Event.{Event}
 use Rattle.cds_base.specs.declared.event.Event.TheVariants.{Inhibit, Valley, Drop, Baseline, Slope, Skim}
 use Rattle.cds_detect.specs.declared.slopes.Slopes.{Slopes}
-
--- the time lies in the window, which doesn't have its end
-abbrev pub is_in_window : ℕ → ℕ → ℕ → Bool
-is_in_window from to time = nat_le (1000 * from) time && nat_lt time (1000 * to)
 
 -- the event forbids peaks at the time
 abbrev pub inhibits : ℕ → Event → Bool

@@ -2,7 +2,7 @@ ghost use Rattle.std.specs.Prelude.{◌≡◌};
 ghost use Rattle.cds_detect.specs.Slopes.{inhibits, is_inhibited, slopes_set, later_of, in_force, slopes_at};
 ghost use Rattle.cds_detect.specs.Settings.{settings_of};
 
-use cds_base::Event;
+use cds_base::{Event, is_in_window};
 use cds_rules::Method;
 
 /// The times of events are in milliseconds, those of samples in microseconds.
@@ -28,10 +28,7 @@ fn inhibits(event: Event, time: u64) -> bool
     ensures { result ≡ inhibits time event }
 {
     match event {
-        Event::Inhibit { from, to } => {
-            MICROSECONDS_PER_MILLISECOND * u64::from(from) <= time
-                && time < MICROSECONDS_PER_MILLISECOND * u64::from(to)
-        }
+        Event::Inhibit { from, to } => is_in_window(from, to, time),
         _ => false,
     }
 }

@@ -4,7 +4,8 @@ use Rattle.std.specs.List.{range_with_len, filter}
 use Rattle.std.proofs.lemmas.List.{map-append}
 use Rattle.std.proofs.lemmas.List.Elements.{filter-append}
 use Rattle.cds_trace.specs.Signal.{Signal, sample_at}
-use Rattle.cds_figures.specs.Noise.{is_in_window, samples_in}
+use Rattle.cds_base.specs.EventTime.{is_in_window}
+use Rattle.cds_figures.specs.Noise.{samples_in}
 
 -- one more number in a row
 range-more : (a n : ℕ) → range_with_len a (n + 1) ≡ range_with_len a n ++ (a + n) ∷ []

@@ -6,7 +6,7 @@ use Rattle.std.specs.Prelude.{ℕ, zero, suc, ◌+◌, ◌-◌, ◌*◌, ◌/◌
 use Rattle.std.specs.List.{range_with_len, find}
 use Rattle.cds_base.specs.declared.peak.Line.{Line}
 use Rattle.cds_trace.specs.Signal.{Signal}
-use Rattle.cds_figures.specs.Height.{height_by_span}
+use Rattle.cds_trace.specs.Heights.{height_by_span}
 
 -- the greatest of `count` numbers in a row, the first of which is `from`, that passes the test, if one does
 abbrev pub last_passing : (ℕ → Bool) → ℕ → ℕ → Option ℕ

@@ -1,4 +1,3 @@
-pub mod Height
 pub mod Crossings
 pub mod Noise
 pub mod Figures

@@ -2,12 +2,9 @@
 use Rattle.std.specs.Prelude.{ℕ, ◌*◌, ◌-ℤ◌, ◌&&◌, ◌==◌, Bool, ℤ, List, [], ◌∷◌, Option, Some, None, map, fold, length, nat_le, nat_lt, unsigned_abs, if◌then◌else◌}
 use Rattle.std.specs.Int.{int_min, int_max}
 use Rattle.std.specs.List.{range_with_len, filter}
+use Rattle.cds_base.specs.EventTime.{is_in_window}
 use Rattle.cds_trace.specs.Signal.{Signal, sample_at}
 use Rattle.cds_figures.specs.declared.blank.Extent.{Extent}
-
--- the time, in microseconds, lies in the window from `from` up to and without `to`, in milliseconds
-abbrev pub is_in_window : ℕ → ℕ → ℕ → Bool
-is_in_window from to time = nat_le (1000 * from) time && nat_lt time (1000 * to)
 
 -- of the first `count` samples those whose time lies in the window
 abbrev pub samples_in : Signal → ℕ → ℕ → ℕ → List ℤ

@@ -1,13 +1,10 @@
 ghost use Rattle.std.specs.Prelude.{◌≡◌, ◌+◌, ◌*◌, ◌∷◌, ◌++◌, [], ◌≤◌, ℤ, List, Some, length};
 ghost use Rattle.cds_trace.specs.Signal.{IsSample};
-ghost use Rattle.cds_figures.specs.Noise.{is_in_window, samples_in, extent_of, noise_of};
+ghost use Rattle.cds_figures.specs.Noise.{samples_in, extent_of, noise_of};
 
-use cds_base::Steps;
+use cds_base::{Steps, is_in_window};
 use cds_trace::Trace;
 use std::sync::ledger::Ledger;
-
-/// A millisecond, in microseconds.
-const MILLISECOND_US: u64 = 1000;
 
 /// The least and the greatest of some samples, in counts.
 #[derive(Clone, Copy, Debug)]
@@ -30,13 +27,6 @@ fn widened(extent: Option<Extent>, sample: i32) -> Extent
             greatest: extent.greatest.max(sample),
         },
     }
-}
-
-/// Whether a time in microseconds lies in the window from `from_ms` up to and without `to_ms`, in milliseconds.
-fn is_in_window(from_ms: u32, to_ms: u32, time_us: u64) -> bool
-    ensures { result ≡ is_in_window from_ms to_ms time_us }
-{
-    MILLISECOND_US * u64::from(from_ms) <= time_us && time_us < MILLISECOND_US * u64::from(to_ms)
 }
 
 /// The extent of the samples whose times lie in a window. One step for each of them.

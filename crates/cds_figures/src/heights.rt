@@ -1,5 +1,5 @@
 ghost use Rattle.std.specs.Prelude.{◌≡◌, ◌+◌, ◌-◌, ◌*◌, ◌^◌, ◌<◌, ◌≤◌, pos, ◌*ℤ◌, length, unsigned_abs};
-ghost use Rattle.cds_figures.specs.Height.{span, level_by_span, height_by_span};
+ghost use Rattle.cds_trace.specs.Heights.{span, level_by_span, height_by_span};
 
 use cds_base::{Line, Steps};
 use cds_trace::Trace;

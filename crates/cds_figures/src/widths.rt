@@ -1,6 +1,6 @@
 ghost use Rattle.std.specs.Prelude.{◌≡◌, ◌+◌, ◌-◌, ◌*◌, ◌/◌, ◌^◌, ◌<◌, ◌≤◌, pos, ◌-ℤ◌, ◌*ℤ◌, ◌<ℤ◌, length, unsigned_abs, IfSome};
 ghost use Rattle.cds_trace.specs.declared.trace.TheConstants.{LAST_TIME_US};
-ghost use Rattle.cds_figures.specs.Height.{height_by_span};
+ghost use Rattle.cds_trace.specs.Heights.{height_by_span};
 ghost use Rattle.cds_figures.specs.Crossings.{scaled_height, scaled_level, meeting_time, left_crossing, right_crossing, crossings_of};
 
 use crate::heights::height_by_span;

@@ -6,7 +6,7 @@ use Rattle.std.proofs.lemmas.Bool.{cases_Bool}
 use Rattle.std.proofs.lemmas.Int.{ints}
 use Rattle.std.proofs.Math.Nat.{mul-le-mul_right}
 use Rattle.cds_trace.specs.Signal.{Signal, IsTrace}
-use Rattle.cds_area.specs.Area.{span}
+use Rattle.cds_trace.specs.Heights.{span}
 use Rattle.cds_area.proofs.AreaLaws.{area-whole, abs-area-le, abs-sample-le}
 use Rattle.cds_integrate.specs.declared.shapes.Shape.{Shape}
 use Rattle.cds_integrate.specs.Lines.{chord}

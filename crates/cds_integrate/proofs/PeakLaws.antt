@@ -7,7 +7,8 @@ use Rattle.cds_base.specs.declared.peak.Ratio.{Ratio}
 use Rattle.cds_base.specs.declared.peak.Peak.{Peak}
 use Rattle.cds_rules.specs.declared.method.Method.{Method}
 use Rattle.cds_trace.specs.Signal.{Signal}
-use Rattle.cds_area.specs.Area.{IsRatio, span}
+use Rattle.cds_trace.specs.Heights.{span}
+use Rattle.cds_area.specs.Area.{IsRatio}
 use Rattle.cds_integrate.specs.declared.measures.Measured.{Measured}
 use Rattle.cds_integrate.specs.declared.found.Found.{Found}
 use Rattle.cds_integrate.specs.Measures.{is_rejected}

@@ -13,7 +13,7 @@ use Rattle.cds_base.specs.declared.cluster.Part.{Part}
 use Rattle.cds_base.specs.declared.cluster.Cluster.{Cluster}
 use Rattle.cds_base.specs.Tiles.{Tiles}
 use Rattle.cds_trace.specs.Signal.{Signal, IsTrace, sample_at}
-use Rattle.cds_area.specs.Area.{span, height_by_span}
+use Rattle.cds_trace.specs.Heights.{span, height_by_span}
 use Rattle.cds_area.proofs.AreaLaws.{area-whole, area-not_negative, abs-sample-le}
 use Rattle.cds_baseline.specs.Chord.{chord_by_span, is_over}
 use Rattle.cds_baseline.specs.Cluster.{is_valley}

@@ -13,7 +13,8 @@ use Rattle.cds_base.specs.declared.cluster.Part.{Part}
 use Rattle.cds_base.specs.declared.cluster.Cluster.{Cluster}
 use Rattle.cds_base.specs.Tiles.{Tiles}
 use Rattle.cds_trace.specs.Signal.{Signal, IsTrace}
-use Rattle.cds_area.specs.Area.{span, area_by_double_span}
+use Rattle.cds_trace.specs.Heights.{span}
+use Rattle.cds_area.specs.Area.{area_by_double_span}
 use Rattle.cds_area.proofs.AreaLaws.{area-split}
 use Rattle.cds_events.specs.Standing.{IsCluster, ClustersFrom}
 use Rattle.cds_integrate.specs.declared.shapes.Shape.{Shape}

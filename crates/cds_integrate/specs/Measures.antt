@@ -5,7 +5,8 @@ use Rattle.std.specs.List.{fold}
 use Rattle.cds_base.specs.declared.peak.Line.{Line}
 use Rattle.cds_rules.specs.declared.method.Method.{Method}
 use Rattle.cds_trace.specs.Signal.{Signal, sum_between}
-use Rattle.cds_area.specs.Area.{span, height_by_span, area_by_double_span}
+use Rattle.cds_trace.specs.Heights.{span, height_by_span}
+use Rattle.cds_area.specs.Area.{area_by_double_span}
 use Rattle.cds_integrate.specs.declared.shapes.Shape.{Shape}
 use Rattle.cds_integrate.specs.declared.measures.Measured.{Measured}
 

@@ -5,7 +5,8 @@ use Rattle.cds_base.specs.declared.peak.Ratio.{Ratio}
 use Rattle.cds_base.specs.declared.peak.Peak.{Peak}
 use Rattle.cds_rules.specs.declared.method.Method.{Method}
 use Rattle.cds_trace.specs.Signal.{Signal}
-use Rattle.cds_area.specs.Area.{IsRatio, span, height_by_span}
+use Rattle.cds_trace.specs.Heights.{span, height_by_span}
+use Rattle.cds_area.specs.Area.{IsRatio}
 use Rattle.cds_names.specs.Naming.{peak_of}
 use Rattle.cds_figures.specs.Crossings.{crossings_of}
 use Rattle.cds_integrate.specs.declared.shapes.Shape.{Shape}

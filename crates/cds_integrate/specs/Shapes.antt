@@ -7,7 +7,7 @@ use Rattle.cds_base.specs.declared.event.Event.TheVariants.{Inhibit, Valley, Dro
 use Rattle.cds_base.specs.declared.cluster.Part.{Part}
 use Rattle.cds_base.specs.declared.cluster.Cluster.{Cluster}
 use Rattle.cds_trace.specs.Signal.{Signal}
-use Rattle.cds_detect.specs.Slopes.{is_in_window}
+use Rattle.cds_base.specs.EventTime.{is_in_window}
 use Rattle.cds_baseline.specs.Cluster.{is_valley, cluster_nodes}
 use Rattle.cds_baseline.specs.Tangent.{tangent_sample}
 use Rattle.cds_integrate.specs.declared.shapes.Shape.{Shape}

@@ -3,7 +3,7 @@ use Rattle.std.specs.Prelude.{◌≡◌, ℕ, ◌-◌, ◌*◌, ◌^◌, ◌<◌
 use Rattle.std.specs.List.{sum_by, fold}
 use Rattle.cds_rules.specs.declared.method.Method.{Method}
 use Rattle.cds_trace.specs.Signal.{Signal}
-use Rattle.cds_area.specs.Area.{span, height_by_span}
+use Rattle.cds_trace.specs.Heights.{span, height_by_span}
 use Rattle.cds_base.specs.declared.cluster.Part.{Part}
 use Rattle.cds_events.specs.Standing.{IsCrest, IsPart}
 use Rattle.cds_integrate.specs.Lines.{chord, first_behind}

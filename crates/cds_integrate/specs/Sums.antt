@@ -5,7 +5,8 @@ use Rattle.cds_base.specs.declared.event.Event.{Event}
 use Rattle.cds_base.specs.declared.cluster.Cluster.{Cluster}
 use Rattle.cds_rules.specs.declared.method.Method.{Method}
 use Rattle.cds_trace.specs.Signal.{Signal}
-use Rattle.cds_area.specs.Area.{span, area_by_double_span}
+use Rattle.cds_trace.specs.Heights.{span}
+use Rattle.cds_area.specs.Area.{area_by_double_span}
 use Rattle.cds_integrate.specs.declared.measures.Measured.{Measured}
 use Rattle.cds_integrate.specs.declared.row_part.Answer.{Answer}
 use Rattle.cds_integrate.specs.declared.row_part.Answer.TheVariants as variant

@@ -1,6 +1,6 @@
 ghost use Rattle.std.specs.Prelude.{◌≡◌, ◌+◌, ◌-◌, ◌*◌, ◌^◌, ◌<◌, ◌≤◌, ℕ, pos, ◌+ℤ◌, ◌-ℤ◌, ◌*ℤ◌, ◌≤ℤ◌, All, IfOk, int_le, int_lt, ◌||◌, length, unsigned_abs, if◌then◌else◌};
 ghost use Rattle.std.specs.Vec.{vec_len};
-ghost use Rattle.cds_area.specs.Area.{span};
+ghost use Rattle.cds_trace.specs.Heights.{span};
 ghost use Rattle.cds_integrate.specs.Measures.{area_end, gross_area, gross_areas, twice_whole_area, twice_areas, riders, measure, measured, reported_area, is_rejected};
 ghost use Rattle.cds_integrate.specs.Standing.{IsShape, Reaches, InRow, IsMeasured};
 

@@ -1,5 +1,6 @@
 ghost use Rattle.std.specs.Prelude.{◌≡◌, ◌+◌, ◌-◌, ◌*◌, ◌^◌, ℕ, ◌<◌, ◌≤◌, IfOk, IfSome, All, Option, length, pos, ◌<ℤ◌, ◌&&◌, not, int_lt, unsigned_abs};
-ghost use Rattle.cds_area.specs.Area.{IsRatio, span, height_by_span};
+ghost use Rattle.cds_trace.specs.Heights.{span, height_by_span};
+ghost use Rattle.cds_area.specs.Area.{IsRatio};
 ghost use Rattle.cds_integrate.specs.Peaks.{boundary_height, is_valley_between, neighbour, IsValley, IsPeak, ArePeaks, component_of};
 ghost use Rattle.cds_integrate.specs.Row.{IsSound, StandsIn};
 ghost use Rattle.cds_integrate.specs.Standing.{IsMeasured, IsFound, widths};

@@ -1,7 +1,6 @@
 ghost use Rattle.std.specs.Prelude.{◌≡◌, ◌+◌, ◌-◌, ◌*◌, ◌==◌, ◌<◌, ◌≤◌, ◌++◌, ℕ, true, false, All, IfOk, IfSome, IfNone, length, map};
 ghost use Rattle.std.specs.List.{list_any};
 ghost use Rattle.std.specs.Vec.{vec_len};
-ghost use Rattle.cds_detect.specs.Slopes.{is_in_window};
 ghost use Rattle.cds_baseline.specs.Cluster.{is_valley};
 ghost use Rattle.cds_base.specs.Tiles.{Tiles};
 ghost use Rattle.cds_baseline.specs.Chord.{is_over};
@@ -12,15 +11,12 @@ ghost use Rattle.cds_integrate.specs.Standing.{IsOver, IsShape, InRow};
 ghost use Rattle.cds_integrate.specs.Shapes.{covers, skims, is_covered, is_skimmed, is_rider, rider_shape, plain_shape, shape_of, shapes_of};
 
 use crate::lines::{chord, first_behind, last_up_to};
-use cds_base::{Boundary, Cluster, Event, Line, NoMemory, Part, Steps};
+use cds_base::{Boundary, Cluster, Event, Line, NoMemory, Part, Steps, is_in_window};
 use cds_baseline::{nodes, tangent};
 use cds_rules::Method;
 use cds_trace::Trace;
 use std::alloc::Global;
 use std::sync::ledger::Ledger;
-
-/// The times of events are in milliseconds.
-const MILLISECOND_US: u64 = 1000;
 
 /// A part with the line below it: its range and apex, where its part of the cluster ends (`reach`), and whether it is
 /// skimmed off by a tangent.
@@ -32,13 +28,6 @@ pub(crate) struct Shape {
     pub reach: u32,
     pub rider: bool,
     pub line: Line,
-}
-
-/// Whether a time lies in a window, which is in milliseconds and doesn't have its end.
-fn is_in_window(from: u32, to: u32, time_us: u64) -> bool
-    ensures { result ≡ is_in_window from to time_us }
-{
-    MILLISECOND_US * u64::from(from) <= time_us && time_us < MILLISECOND_US * u64::from(to)
 }
 
 /// Whether the event makes a valley at this time a node.

@@ -10,3 +10,5 @@ pub mod Refusal
 pub mod Period
 pub mod WrittenText
 pub mod SampleBytes
+pub mod Heights
+pub mod Extremes

@@ -3,7 +3,7 @@ ghost use Rattle.cds_trace.specs.SampleBytes.{bytes_of_sample, bytes_of_samples}
 
 use crate::trace::Trace;
 use cds_base::Bytes;
-use std::alloc::{AllocError, Global};
+use std::alloc::AllocError;
 
 /// The bytes of a sample in a record.
 const BYTES_OF_SAMPLE: usize = 4;
@@ -18,11 +18,14 @@ impl Trace {
 
     /// The bytes of the samples in a record: their number as a u32 and each as an i32, the high byte first. No step.
     /// This project's own form.
-    pub fn record_samples(&self, alloc: Global) -> Result<Bytes, AllocError>
+    pub fn record_samples(&self) -> Result<Bytes, AllocError>
         ensures { IfOk result (λ bytes. bytes ≡ bytes_of_samples self.now) }
     {
         let samples = self.samples();
-        let mut bytes = Vec::with_capacity(alloc, BYTES_OF_SAMPLE * (samples.len() + 1))?;
+        let mut bytes = Vec::with_capacity(
+            self.allocator(),
+            BYTES_OF_SAMPLE * (samples.len() + 1),
+        )?;
         bytes.extend_from_slice(&self.len().to_be_bytes())?;
         for sample in samples {
             push_sample(&mut bytes, *sample)?;

@@ -102,14 +102,20 @@ impl Trace {
     }
 
     /// An equal trace with memory of its own. No step.
-    pub fn copy(&self, alloc: Global) -> Result<Trace, AllocError>
+    pub fn copy(&self) -> Result<Trace, AllocError>
         ensures { IfOk result (λ copy. copy ≡ self.now) }
     {
+        let alloc = self.allocator();
         Ok(Trace {
             period: self.period,
             samples: Vec::from_slice(alloc, &self.samples)?,
             sums: Vec::from_slice(alloc, &self.sums)?,
         })
+    }
+
+    // Where its memory comes from.
+    pub(crate) fn allocator(&self) -> Global {
+        *self.samples.allocator()
     }
 
     // The samples in the order of their times.

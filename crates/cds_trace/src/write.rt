@@ -6,7 +6,7 @@ ghost use Rattle.cds_trace.specs.WrittenText.{csv_text, line_of};
 use crate::trace::Trace;
 use cds_base::Bytes;
 use itoa::Buffer;
-use std::alloc::{AllocError, Global};
+use std::alloc::AllocError;
 
 /// The header of the text of a trace.
 const HEADER: &[u8] = b"time_us,signal\n";
@@ -18,14 +18,14 @@ impl Trace {
     /// The text of the trace as CSV: the header `time_us,signal`, and for each sample a line of its time in
     /// microseconds and its value, without leading zeros and blanks, with a line feed behind each. Reading it gives
     /// an equal trace. No step. The format is this project's own.
-    pub fn write_csv(&self, alloc: Global) -> Result<Bytes, AllocError>
+    pub fn write_csv(&self) -> Result<Bytes, AllocError>
         ensures text { IfOk result (λ text. text ≡ csv_text self.now) }
         ensures stated { IfOk result (λ text. csv_trace text ≡ Ok self.now) }
     {
         let period = self.period();
         let samples = self.samples();
         let room = HEADER.len() + MOST_BYTES_OF_LINE * samples.len();
-        let mut text = Vec::with_capacity(alloc, room)?;
+        let mut text = Vec::with_capacity(self.allocator(), room)?;
         text.extend_from_slice(HEADER)?;
         for (i, sample) in samples.iter().enumerate() {
             push_line(&mut text, i as u64 * period, *sample)?;

@@ -2,7 +2,7 @@ use Rattle.std.proofs.Common.{◌≡◌, arith, refl, rules}
 use Rattle.std.proofs.lemmas.Int.{ints, to_z-of_z}
 use mir.Syntax.{w32, w128}
 use mir.Val.{SFits, to_z, of_z}
-use Rattle.cds_area.specs.Area.{height_by_span}
+use Rattle.cds_trace.specs.Heights.{height_by_span}
 use Rattle.cds_area.proofs.heights.height.Goals as goal
 
 pub returns-clause-numerator : goal.returns-clause-numerator

@@ -2,7 +2,7 @@ use Rattle.std.proofs.Common.{rules, arith}
 use Rattle.std.proofs.lemmas.Int.{to_z-of_z}
 use mir.Syntax.{w64}
 use mir.Val.{SFits}
-use Rattle.cds_figures.specs.Height.{height_by_span}
+use Rattle.cds_trace.specs.Heights.{height_by_span}
 use Rattle.cds_figures.proofs.NumberLaws.{mul-lt}
 use Rattle.cds_figures.proofs.widths.level_of.Goals as goal
 

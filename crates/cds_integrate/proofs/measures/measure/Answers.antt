@@ -2,7 +2,7 @@ use Rattle.std.proofs.Common.{◌≡◌, ◌-◌, ◌*◌, length, refl, ◌∙�
 use Rattle.std.proofs.lemmas.Int.{to_z-of_z}
 use mir.Syntax.{w128}
 use mir.Val.{SFits, to_z, of_z}
-use Rattle.cds_area.specs.Area.{span, height_by_span}
+use Rattle.cds_trace.specs.Heights.{span, height_by_span}
 use Rattle.cds_integrate.specs.Measures.{gross_area, area_of}
 use Rattle.cds_integrate.proofs.AreaLaws.{gross-most, area-without, area-lower}
 use Rattle.cds_integrate.proofs.measures.measure.Goals as goal

@@ -1,7 +1,7 @@
 use Rattle.std.proofs.Common.{◌-◌, ◌*◌, ◌≤◌, length, arith}
 use Rattle.std.specs.Prelude.{unsigned_abs}
 use Rattle.std.proofs.lemmas.Int.{ints}
-use Rattle.cds_area.specs.Area.{span}
+use Rattle.cds_trace.specs.Heights.{span}
 use Rattle.cds_area.proofs.AreaLaws.{units-fit}
 use Rattle.cds_integrate.proofs.measures.reported_area.Goals as goal
 

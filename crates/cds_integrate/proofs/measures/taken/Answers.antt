@@ -2,7 +2,7 @@ use Rattle.std.proofs.Common.{◌≡◌, ◌+◌, pos, ◌*ℤ◌, drop, get_or,
 use Rattle.std.proofs.lemmas.Int.{ints, to_z-of_z}
 use mir.Syntax.{w128}
 use mir.Val.{SFits, to_z}
-use Rattle.cds_area.specs.Area.{span}
+use Rattle.cds_trace.specs.Heights.{span}
 use Rattle.cds_integrate.specs.Measures.{twice_whole_area}
 use Rattle.cds_integrate.proofs.RowLaws.{no_shape, row-at}
 use Rattle.cds_integrate.proofs.AreaLaws.{gross-length, gross-get, gross-rider, twice-step}

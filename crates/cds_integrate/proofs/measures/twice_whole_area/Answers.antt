@@ -4,7 +4,7 @@ use Rattle.std.proofs.lemmas.Int.{to_z_pos, to_z-of_z}
 use Rattle.std.proofs.Math.Nat.{div-le_self}
 use mir.Syntax.{w128}
 use mir.Val.{SFits}
-use Rattle.cds_area.specs.Area.{span}
+use Rattle.cds_trace.specs.Heights.{span}
 use Rattle.cds_integrate.specs.Measures.{twice_whole_area}
 use Rattle.cds_integrate.proofs.NumberLaws.{exact-div, size-of}
 use Rattle.cds_integrate.proofs.measures.twice_whole_area.Goals as goal

@@ -1,5 +1,5 @@
--- The height of a signal above a straight line, as a whole number: it is stated times the samples between the line's
--- ends. This project's own rule.
+-- The height of a signal over a straight line. It is a fraction over a divisor that the line alone gives, so it is stated
+-- here as a whole number, times that divisor. This project's own rule.
 use Rattle.std.specs.Prelude.{ℕ, ◌-◌, ℤ, pos, ◌+ℤ◌, ◌-ℤ◌, ◌*ℤ◌}
 use Rattle.cds_base.specs.declared.peak.Line.{Line}
 use Rattle.cds_trace.specs.Signal.{Signal, sample_at}
