@@ -1,6 +1,6 @@
 -- What was read, served and written so far, and what that comes to at the end.
 use Rattle.std.proofs.Common.{◌≡◌, ℕ, zero, suc, ◌+◌, ◌-◌, ◌*◌, ◌^◌, ◌<◌, ◌≤◌, Bool, true, false, ◌||◌, if◌then◌else◌, List, [], ◌∷◌, ◌++◌, length, take, min, Option, Some, None, refl, sym, ap, ◌∙◌, subst, inl, inr, append_assoc, append-nil, length-append, length-drop, arith}
-use Rattle.std.specs.Prelude.{IfSome, option_map}
+use Rattle.std.specs.Prelude.{◌⊎◌, IfSome, option_map}
 use Rattle.cds_base.specs.Told.{then_more, more_before}
 use Rattle.cds_base.proofs.ToldLaws.{then_more_twice, more_before_twice}
 use Rattle.cds_http.proofs.ItemLemmas.{AreItems-unique as items_unique}
@@ -14,7 +14,9 @@ use Rattle.cds_desk.specs.Sending.{HoldsPrefix}
 use Rattle.cds_book.specs.Tables.{TablesState}
 use Rattle.cds_desk.specs.Response.{continue_text}
 use Rattle.cds_desk.specs.Service.{Outcome, ServesItem, Serves, followed_by, writes, fault_text}
-use Rattle.cds_desk.specs.Serving.{World, Reading, world, reading, Changed, Read, ReadOn, ItemServed, ItemBroken, Served, is_refused, is_closed, IsDone, IsRefused, IsUnread, IsBroken}
+use Rattle.cds_desk.specs.Serving.{World, Reading, world, reading, Changed, Read, ReadOn, ItemServed, ItemBroken, Served, is_refused, is_closed, IsDone, IsRefused, IsSourceFailed, IsSinkFailed, EndsAs}
+use Rattle.cds_desk.specs.declared.serving.Ended.{Ended}
+use Rattle.cds_desk.specs.declared.serving.Ended.TheVariants.{Done, Refused, SinkFailed}
 use Rattle.cds_desk.proofs.ToldItems.{Told, told_nothing, told_fed, told_more, told_answer, told_continue, told_request, items_so_far, items_with, begins_with}
 
 -- some bytes were read, and fed to the stream
@@ -54,6 +56,7 @@ changed_nothing w text written = record {
   content = sym (kept-nil w.content);
   tables = refl;
   failures = omega arith;
+  untouched = λ _. refl;
 }
 
 changed_then : (a b c : World) (first second : Outcome) → Changed a b first → Changed b c second → Changed a c (followed_by first second)
@@ -61,6 +64,7 @@ changed_then a b c first second x y = record {
   content = y.content ∙ ap (option_map (λ list. list ++ second.records)) x.content ∙ kept-twice a.content first.records second.records;
   tables = y.tables;
   failures = omega (arith, x.failures, y.failures);
+  untouched = λ none. y.untouched (omega (arith, none)) ∙ x.untouched (omega (arith, none));
 }
 
 -- an outcome and then nothing
@@ -325,12 +329,12 @@ refused_at w n after from to m ended f last whole s served =
     (ended, s.items ++ fault f ∷ [], served_more w n after from to m ended (fault f) s served all whole, last_refused s.items (fault f))
 
 -- the source failed
-pub unread_at : (w n : World) (from to : Reading) (m : Stream) → SoFar w n from to m → FirstItem m.place m.bytes m.continued false None → IsUnread w n from to
+pub unread_at : (w n : World) (from to : Reading) (m : Stream) → SoFar w n from to m → FirstItem m.place m.bytes m.continued false None → IsSourceFailed w n from to
 unread_at w n from to m s none =
     (s.items, served_all w n from to m false s (items_so_far s.bytes s.items m s.told none) (λ e. absurd (cc)), s.not_refused, s.not_closed)
 
 -- the sink failed at the first item that is decided
-pub broken_at : (w n after : World) (from to : Reading) (m : Stream) (item : Item) → FirstItem m.place m.bytes m.continued false (Some item) → SoFar w n from to m → ItemBroken n after item → IsBroken w after from to
+pub broken_at : (w n after : World) (from to : Reading) (m : Stream) (item : Item) → FirstItem m.place m.bytes m.continued false (Some item) → SoFar w n from to m → ItemBroken n after item → IsSinkFailed w after from to
 broken_at w n after from to m item first s broken = record {
   bytes = s.bytes;
   ended = false;
@@ -348,7 +352,7 @@ broken_at w n after from to m item first s broken = record {
 }
 
 -- the sink failed at the fault at the end
-pub broken_at_end : (w n after : World) (from to : Reading) (m : Stream) (f : Fault) → ItemsFrom m [] true (fault f ∷ []) → IfSome to.left (λ rest. rest ≡ []) → SoFar w n from to m → ItemBroken n after (fault f) → IsBroken w after from to
+pub broken_at_end : (w n after : World) (from to : Reading) (m : Stream) (f : Fault) → ItemsFrom m [] true (fault f ∷ []) → IfSome to.left (λ rest. rest ≡ []) → SoFar w n from to m → ItemBroken n after (fault f) → IsSinkFailed w after from to
 broken_at_end w n after from to m f last whole s broken = record {
   bytes = s.bytes;
   ended = true;
@@ -405,11 +409,25 @@ close_step w n after from to m a d r is drops adds closes s served =
 
 -- the sink failed in the response to a request
 pub broken_step : (w n after : World) (from to : Reading) (m a : Stream) (r : Request) → a ≡ answered m (next.Request r) → TellsItem m (next.Request r)
-    → SoFar w n from to m → ItemBroken n after (request (message_of a.bytes r)) → IsBroken w after from to
+    → SoFar w n from to m → ItemBroken n after (request (message_of a.bytes r)) → IsSinkFailed w after from to
 broken_step w n after from to m a r is first s broken =
     let here = subst (SoFar w n from to) (sym is) (so_far_answer w n from to m r s) in
     let item = subst (λ (b : Stream). FirstItem b.place b.bytes b.continued false (Some (request (message_of b.bytes r)))) (sym is) (answered_first m r first) in
     broken_at w n after from to a (request (message_of a.bytes r)) item here broken
+
+-- ---- the end
+
+module _ (w n : World) (from to : Reading) (e : Ended) where
+  -- the serving ended at the end of the source, or at a fault
+  pub ends_by : (e ≡ Done → IsDone w n from to) → (e ≡ Refused → IsRefused w n from to) → (e ≡ SinkFailed → IsSinkFailed w n from to)
+      → (e ≡ Done) ⊎ (e ≡ Refused) ⊎ (e ≡ SinkFailed) → EndsAs e w n from to
+  ends_by done refused broken either = elim either [
+    | inl is ↦ subst (λ (x : Ended). EndsAs x w n from to) (sym is) (done is)
+    | inr other ↦ elim other [
+      | inl is ↦ subst (λ (x : Ended). EndsAs x w n from to) (sym is) (refused is)
+      | inr is ↦ subst (λ (x : Ended). EndsAs x w n from to) (sym is) (broken is)
+    ]
+  ]
 
 -- where the stream stands after a request was dropped
 pub after_request : (m a d : Stream) (r : Request) → a ≡ answered m (next.Request r) → d ≡ dropped a r → r.body.end ≤ length a.bytes

@@ -1,49 +1,13 @@
 -- How a session ends.
-use Rattle.std.proofs.Common.{◌≡◌, ℕ, List, Option, Some, None, Result, Ok, Err, refl, sym, subst, inl, inr}
-use Rattle.std.specs.Prelude.{IfSome}
+use Rattle.std.proofs.Common.{◌≡◌, ◌∙◌, ℕ, List, Option, Some, None, Result, Ok, Err, refl, sym, ap, subst, inl, inr}
+use Rattle.std.specs.Prelude.{IfSome, is_some}
 use Rattle.cds_book.specs.Tables.{TablesState}
 use Rattle.cds_keep.specs.Found.{Found, records, damaged}
 use Rattle.cds_desk.specs.Opening.{opened, OpensAs}
-use Rattle.cds_desk.specs.Serving.{World, Reading, world}
-use Rattle.cds_desk.specs.Session.{Opened, SessionOf, status_of, damage_of}
+use Rattle.cds_desk.specs.Serving.{Reading, world, EndsAs}
+use Rattle.cds_desk.specs.Session.{Opened, ServedUntil, devices, damage_of}
 use Rattle.cds_desk.specs.declared.desk.OpenError.{OpenError}
 use Rattle.cds_desk.specs.declared.serving.Ended.{Ended}
-use Rattle.cds_desk.specs.declared.serving.Ended.TheVariants.{Done, Refused, SourceFailed, SinkFailed, NoMemory}
-
-pub ended_done : (e : Ended) → status_of e ≡ 0 → e ≡ Done
-ended_done Done is = refl
-ended_done Refused is = absurd (cc)
-ended_done SourceFailed is = absurd (cc)
-ended_done SinkFailed is = absurd (cc)
-ended_done NoMemory is = absurd (cc)
-
-pub ended_refused : (e : Ended) → status_of e ≡ 1 → e ≡ Refused
-ended_refused Done is = absurd (cc)
-ended_refused Refused is = refl
-ended_refused SourceFailed is = absurd (cc)
-ended_refused SinkFailed is = absurd (cc)
-ended_refused NoMemory is = absurd (cc)
-
-pub ended_unread : (e : Ended) → status_of e ≡ 3 → e ≡ SourceFailed
-ended_unread Done is = absurd (cc)
-ended_unread Refused is = absurd (cc)
-ended_unread SourceFailed is = refl
-ended_unread SinkFailed is = absurd (cc)
-ended_unread NoMemory is = absurd (cc)
-
-pub ended_broken : (e : Ended) → status_of e ≡ 4 → e ≡ SinkFailed
-ended_broken Done is = absurd (cc)
-ended_broken Refused is = absurd (cc)
-ended_broken SourceFailed is = absurd (cc)
-ended_broken SinkFailed is = refl
-ended_broken NoMemory is = absurd (cc)
-
-pub ended_no_memory : (e : Ended) → status_of e ≡ 6 → e ≡ NoMemory
-ended_no_memory Done is = absurd (cc)
-ended_no_memory Refused is = absurd (cc)
-ended_no_memory SourceFailed is = absurd (cc)
-ended_no_memory SinkFailed is = absurd (cc)
-ended_no_memory NoMemory is = refl
 
 -- the tables that were opened are those that the records make
 opens_ok : (list : List (List ℕ)) (tables : TablesState) → OpensAs (opened list) (Ok tables) → opened list ≡ Ok tables
@@ -73,16 +37,24 @@ opened_so (Some f) content list tables h holds opens = record {
 }
 
 -- the source was served from the store that was opened
-pub session_of : (Way : World → World → Reading → Reading → Type 0) (found : Option Found) (list : List (List ℕ)) (tables after : TablesState)
-    (written written_now : Option (List ℕ)) (content content_now : Option (List (List ℕ))) (faults mid faults_now : ℕ) (from to : Reading)
+pub served_until : (ended : Ended) (found found_now : Option Found) (list : List (List ℕ)) (tables after : TablesState)
+    (written written_now : Option (List ℕ)) (content old content_now : Option (List (List ℕ))) (faults mid faults_now : ℕ) (from to : Reading)
     → IfSome found (λ f. (f ≡ records list) × (content ≡ Some list)) → IfSome content (λ kept. kept ≡ list) → OpensAs (opened list) (Ok tables) → mid ≡ faults
-    → Way (world written content mid tables) (world written_now content_now faults_now after) from to
-    → SessionOf Way found written faults written_now content_now faults_now from to
+    → EndsAs ended (world written content mid tables) (world written_now content_now faults_now after) from to
+    → ServedUntil ended (devices from written found old faults) (devices to written_now found_now content_now faults_now)
 unfolding opened_so
-session_of Way None list tables after written written_now content content_now faults mid faults_now from to h holds opens same way =
-    (opened_so None content list tables h holds opens, after, subst (λ (f : ℕ). Way (world written content f tables) (world written_now content_now faults_now after) from to) same way)
-session_of Way (Some f) list tables after written written_now content content_now faults mid faults_now from to h holds opens same way =
-    (opened_so (Some f) content list tables h holds opens, after, subst (λ (f : ℕ). Way (world written content f tables) (world written_now content_now faults_now after) from to) same way)
+served_until ended None found_now list tables after written written_now content old content_now faults mid faults_now from to h holds opens same way =
+    (opened_so None content list tables h holds opens, after, subst (λ (f : ℕ). EndsAs ended (world written content f tables) (world written_now content_now faults_now after) from to) same way)
+served_until ended (Some f) found_now list tables after written written_now content old content_now faults mid faults_now from to h holds opens same way =
+    (opened_so (Some f) content list tables h holds opens, after, subst (λ (f : ℕ). EndsAs ended (world written content f tables) (world written_now content_now faults_now after) from to) same way)
+
+-- a load that found this list leaves what a load finds
+pub finds_same : (found now : Option Found) (list : List (List ℕ)) (content : Option (List (List ℕ))) → IfSome found (λ f. (f ≡ records list) × (content ≡ Some list))
+    → IfSome now (λ f. f ≡ records list) → is_some now ≡ is_some found → now ≡ found
+finds_same None None list content h finds tells = refl
+finds_same None (Some g) list content h finds tells = absurd (cc)
+finds_same (Some f) None list content h finds tells = absurd (cc)
+finds_same (Some f) (Some g) list content h finds tells = ap Some (finds ∙ sym h.0)
 
 -- a load found this damage
 pub damage_found : (found : Option Found) (number : ℕ) → IfSome found (λ f. f ≡ damaged number) → IfSome found (λ f. damage_of f ≡ Some number)

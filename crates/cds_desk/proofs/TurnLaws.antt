@@ -33,19 +33,19 @@ came : (before now : World) (m : Message) (a : Answered)
 came before now m (Response response) c = record {
   outcome = turn before.tables m (served 0);
   serves = (served 0, tt, refl);
-  changed = record { content = c.2; tables = c.1; failures = omega (arith, c.3) };
+  changed = record { content = c.2; tables = c.1; failures = omega (arith, c.3); untouched = λ _. c.3 };
   text_is = c.0;
 }
 came before now m NoMemory c = record {
   outcome = turn before.tables m no_memory;
   serves = (no_memory, tt, refl);
-  changed = record { content = c.1 ∙ sym (kept-nil before.content); tables = c.0; failures = omega (arith, c.2) };
+  changed = record { content = c.1 ∙ sym (kept-nil before.content); tables = c.0; failures = omega (arith, c.2); untouched = λ _. c.2 };
   text_is = refl;
 }
 came before now m KeeperFailed c = record {
   outcome = turn before.tables m keeper_failed;
   serves = (keeper_failed, (0, c.0), refl);
-  changed = record { content = c.2 ∙ sym (kept-nil before.content); tables = c.1; failures = c.3 };
+  changed = record { content = c.2 ∙ sym (kept-nil before.content); tables = c.1; failures = c.3; untouched = λ none. absurd (cc) };
   text_is = refl;
 }
 
@@ -69,7 +69,7 @@ module _ {A E : Type 0} (r : Result A E) (w v : Option (List ℕ)) (c d : Option
       on (Ok x) h = record {
         outcome = it_came.outcome;
         serves = it_came.serves;
-        changed = record { content = it_came.changed.content; tables = it_came.changed.tables; failures = it_came.changed.failures };
+        changed = record { content = it_came.changed.content; tables = it_came.changed.tables; failures = it_came.changed.failures; untouched = it_came.changed.untouched };
         written = h ∙ ap (then_more w) ((rw (asks.close, asks.without_body) refl) ∙ it_came.text_is);
       }
 
@@ -82,7 +82,7 @@ module _ {A E : Type 0} (r : Result A E) (w v : Option (List ℕ)) (c d : Option
       on (Err x) h = record {
         outcome = it_came.outcome;
         serves = it_came.serves;
-        changed = record { content = it_came.changed.content; tables = it_came.changed.tables; failures = it_came.changed.failures };
+        changed = record { content = it_came.changed.content; tables = it_came.changed.tables; failures = it_came.changed.failures; untouched = it_came.changed.untouched };
         written = rw (asks.close, asks.without_body, it_came.text_is) at h;
       }
 

@@ -26,6 +26,7 @@ phrase status =
 abbrev pub media_type : Content → List ℕ
 media_type content.Json = codes "application/json"
 media_type content.Csv = codes "text/csv"
+media_type content.Toml = codes "application/toml"
 
 -- a field of a head
 unfoldable pub field_line : List ℕ → List ℕ → List ℕ

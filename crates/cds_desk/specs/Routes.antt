@@ -20,11 +20,17 @@ use Rattle.cds_desk.specs.declared.target.Target.TheVariants as target
 abbrev pub pattern_of : Route → List ℕ
 pattern_of route.PutTrace = codes "/traces/{name}"
 pattern_of route.GetTrace = codes "/traces/{name}/{version}"
+pattern_of route.PutDraft = codes "/methods/{name}/draft"
+pattern_of route.PostVersion = codes "/methods/{name}/versions"
+pattern_of route.GetMethod = codes "/methods/{name}/versions/{version}"
 
 -- the one method of a route
 abbrev pub method_of : Route → List ℕ
 method_of route.PutTrace = codes "PUT"
 method_of route.GetTrace = codes "GET"
+method_of route.PutDraft = codes "PUT"
+method_of route.PostVersion = codes "POST"
+method_of route.GetMethod = codes "GET"
 
 -- the rows of `matchit` with one more, for a route whose pattern was read
 abbrev pub with_scan : Result Scan InsertError → Route → RowsOf (RouteOf Route) → RowsOf (RouteOf Route)
@@ -37,7 +43,8 @@ with_route r rows = with_scan (parse_route (pattern_of r)) r rows
 
 -- the routes, as rows of `matchit`
 abbrev pub route_table : RowsOf (RouteOf Route)
-route_table = with_route route.GetTrace (with_route route.PutTrace [])
+route_table =
+    with_route route.GetMethod (with_route route.PostVersion (with_route route.PutDraft (with_route route.GetTrace (with_route route.PutTrace []))))
 
 -- ---- what a path names
 
@@ -59,25 +66,40 @@ name_part path = before_first is_slash (after_first is_slash (after_first is_sla
 abbrev pub behind_name : List ℕ → List ℕ
 behind_name path = after_first is_slash (after_first is_slash (after_first is_slash path))
 
+-- what stands behind `versions` and its slash, as `3` in `/methods/m/versions/3`
+abbrev pub behind_versions : List ℕ → List ℕ
+behind_versions path = after_first is_slash (behind_name path)
+
 -- a number of a path: 1 to 4,294,967,295 in decimal digits, without leading zeros
 abbrev pub path_number : List ℕ → Option ℕ
 path_number part = if get_or part 0 48 == 48 then None else number_in 1 4294967295 part
 
--- a trace, where the part is a name
-abbrev pub trace_named : Option (List ℕ) → Option Target
-trace_named (Some name) = Some (target.Trace name)
-trace_named None = None
+-- a version of a trace, where there is a number
+abbrev pub trace_version : List ℕ → Option ℕ → Option Target
+trace_version name (Some version) = Some (target.TraceVersion name version)
+trace_version name None = None
 
--- a version of a trace, where the parts are a name and a number
-abbrev pub version_named : Option (List ℕ) → Option ℕ → Option Target
-version_named (Some name) (Some version) = Some (target.TraceVersion name version)
-version_named None version = None
-version_named (Some name) None = None
+-- a version of a method, where there is a number
+abbrev pub method_version : List ℕ → Option ℕ → Option Target
+method_version name (Some version) = Some (target.MethodVersion name version)
+method_version name None = None
 
--- what the path names, on this route
+-- what the path names on this route, with the name in it
+abbrev pub named : Route → List ℕ → List ℕ → Option Target
+named route.PutTrace path name = Some (target.Trace name)
+named route.GetTrace path name = trace_version name (path_number (behind_name path))
+named route.PutDraft path name = Some (target.Draft name)
+named route.PostVersion path name = Some (target.MethodVersions name)
+named route.GetMethod path name = method_version name (path_number (behind_versions path))
+
+-- the same, where there is a name
+abbrev pub named_with : Route → List ℕ → Option (List ℕ) → Option Target
+named_with r path (Some name) = named r path name
+named_with r path None = None
+
+-- what the path names on this route
 abbrev pub named_on : Route → List ℕ → Option Target
-named_on route.PutTrace path = trace_named (name_of (name_part path))
-named_on route.GetTrace path = version_named (name_of (name_part path)) (path_number (behind_name path))
+named_on r path = named_with r path (name_of (name_part path))
 
 -- what the path names, where `matchit` found this route for it
 abbrev pub named_by : Option (RouteOf Route) → List ℕ → Option Target
@@ -92,3 +114,6 @@ target_of t = named_by (first route_table (path_of t)) (path_of t)
 abbrev pub route_of : Target → Route
 route_of (target.Trace name) = route.PutTrace
 route_of (target.TraceVersion name version) = route.GetTrace
+route_of (target.Draft name) = route.PutDraft
+route_of (target.MethodVersions name) = route.PostVersion
+route_of (target.MethodVersion name version) = route.GetMethod

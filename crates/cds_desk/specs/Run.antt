@@ -29,6 +29,10 @@ usage_line = codes "usage: cds peaks|session|serve|demo\n"
 abbrev pub IsStatus : ℕ → Type 0
 IsStatus status = IsTrue (list_any (λ s. s == status) (0 ∷ 1 ∷ 2 ∷ 3 ∷ 4 ∷ 5 ∷ 6 ∷ 8 ∷ []))
 
+-- a session was served: to its end, to a fault of the stream, or until the source or the sink failed
+abbrev pub IsServed : ℕ → Type 0
+IsServed status = IsTrue (list_any (λ s. s == status) (0 ∷ 1 ∷ 3 ∷ 4 ∷ []))
+
 -- a session ended before anything was served: the keeper failed, memory was wanting, or the store is damaged
 abbrev pub EndsUnserved : ℕ → Type 0
 EndsUnserved status = IsTrue (list_any (λ s. s == status) (5 ∷ 6 ∷ 8 ∷ []))

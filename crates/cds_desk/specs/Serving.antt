@@ -6,6 +6,8 @@ use Rattle.cds_http.specs.Items.{Item, continue, request, fault, HasItems}
 use Rattle.cds_http.specs.Stream.{Stream, fed as fed_with}
 use Rattle.cds_desk.specs.Sending.{HoldsPrefix}
 use Rattle.cds_desk.specs.Service.{Outcome, ServesItem, Serves}
+use Rattle.cds_desk.specs.declared.serving.Ended.{Ended}
+use Rattle.cds_desk.specs.declared.serving.Ended.TheVariants.{Done, Refused, SourceFailed, SinkFailed, NoMemory}
 
 -- what is told at one time of the sink and of the keeper, and the tables
 pub record World : Type 0 where
@@ -28,11 +30,13 @@ pub record Reading : Type 0 where
 abbrev pub reading : Option (List ℕ) → Option (List ℕ) → Reading
 reading given left = record { given = given; left = left }
 
--- the records of the outcome stand behind those that the keeper held, the tables are the outcome's, and each failure was counted
+-- the records of the outcome stand behind those that the keeper held, the tables are the outcome's, and each failure was
+-- counted; where there was none, the keeper's count is as before
 pub record Changed (before now : World) (outcome : Outcome) : Type 0 where
   pub content : now.content ≡ option_map (λ list. list ++ outcome.records) before.content
   pub tables : now.tables ≡ outcome.tables
   pub failures : min (before.faults + outcome.failures) (2 ^ 64 - 1) ≤ now.faults
+  pub untouched : outcome.failures ≡ 0 → now.faults ≡ before.faults
 
 -- these bytes were read
 pub record Read (before now : Reading) (bytes : List ℕ) : Type 0 where
@@ -93,13 +97,13 @@ IsRefused before now from to =
     (ended : Bool) × (items : List Item) × Served before now from to ended items × (is_refused items ≡ true)
 
 -- the bytes that were read before the source failed were served
-abbrev pub IsUnread : World → World → Reading → Reading → Type 0
-IsUnread before now from to =
+abbrev pub IsSourceFailed : World → World → Reading → Reading → Type 0
+IsSourceFailed before now from to =
     (items : List Item) × Served before now from to false items × (is_refused items ≡ false) × (is_closed items ≡ false)
 
 -- The sink failed at an item: those before it were served whole, and of what is written for it a front stands in the
 -- sink. The items of the bytes that were read begin with them.
-pub record IsBroken (before now : World) (from to : Reading) : Type 0 where
+pub record IsSinkFailed (before now : World) (from to : Reading) : Type 0 where
   pub bytes : List ℕ
   pub ended : Bool
   pub read : Read from to bytes
@@ -114,6 +118,14 @@ pub record IsBroken (before now : World) (from to : Reading) : Type 0 where
   pub changed : Changed before between outcome
   pub written : between.written ≡ then_more before.written outcome.written
   pub broken : ItemBroken between now item
+
+-- the serving of a connection ended so; for want of memory nothing happened
+abbrev pub EndsAs : Ended → World → World → Reading → Reading → Type 0
+EndsAs Done before now from to = IsDone before now from to
+EndsAs Refused before now from to = IsRefused before now from to
+EndsAs SourceFailed before now from to = IsSourceFailed before now from to
+EndsAs SinkFailed before now from to = IsSinkFailed before now from to
+EndsAs NoMemory before now from to = (now ≡ before) × (to ≡ from)
 
 -- the bytes of the stream were asked for once more: these came, and nothing where the source has ended
 pub record ReadOn (from to : Reading) (before now : Stream) (count : ℕ) : Type 0 where

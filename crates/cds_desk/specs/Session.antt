@@ -3,7 +3,7 @@ use Rattle.std.specs.Prelude.{◌≡◌, ℕ, List, codes, ◌++◌, decimal, Op
 use Rattle.cds_book.specs.Tables.{TablesState}
 use Rattle.cds_keep.specs.Found.{Found, records, damaged}
 use Rattle.cds_desk.specs.Opening.{opened}
-use Rattle.cds_desk.specs.Serving.{World, Reading, world}
+use Rattle.cds_desk.specs.Serving.{Reading, world, EndsAs}
 use Rattle.cds_desk.specs.declared.serving.Ended.{Ended}
 use Rattle.cds_desk.specs.declared.serving.Ended.TheVariants.{Done, Refused, SourceFailed, SinkFailed, NoMemory}
 use Rattle.cds_desk.specs.declared.desk.OpenError.{OpenError}
@@ -36,11 +36,26 @@ pub record Opened (found : Option Found) : Type 0 where
   pub tables : TablesState
   pub opens : opened list ≡ Ok tables
 
--- The store was opened, and from its tables the source was served in this way. What a load finds is told or not; what
--- the sink holds and the keeper's count are those of the start.
-abbrev pub SessionOf : (World → World → Reading → Reading → Type 0) → Option Found → Option (List ℕ) → ℕ → Option (List ℕ) → Option (List (List ℕ)) → ℕ → Reading → Reading → Type 0
-SessionOf Way found written faults written_now content_now faults_now from to =
-    (o : Opened found) × (after : TablesState) × Way (world written o.content faults o.tables) (world written_now content_now faults_now after) from to
+-- what is told at one time of the devices of a session
+pub record Devices : Type 0 where
+  -- the source
+  pub source : Reading
+  -- what the sink holds
+  pub written : Option (List ℕ)
+  -- what a load of the store finds
+  pub found : Option Found
+  -- the records that the keeper holds, and its count of faults
+  pub content : Option (List (List ℕ))
+  pub faults : ℕ
+
+abbrev pub devices : Reading → Option (List ℕ) → Option Found → Option (List (List ℕ)) → ℕ → Devices
+devices source written found content faults = record { source = source; written = written; found = found; content = content; faults = faults }
+
+-- the store was opened, and from its tables the source was served until that ended so
+abbrev pub ServedUntil : Ended → Devices → Devices → Type 0
+ServedUntil ended before now =
+    (o : Opened before.found) × (after : TablesState)
+    × EndsAs ended (world before.written o.content before.faults o.tables) (world now.written now.content now.faults after) before.source now.source
 
 -- the status of a session whose serving ended so
 abbrev pub status_of : Ended → ℕ
@@ -49,3 +64,7 @@ status_of Refused = 1
 status_of SourceFailed = 3
 status_of SinkFailed = 4
 status_of NoMemory = 6
+
+-- the status tells how the serving ended
+abbrev pub SessionServed : ℕ → Devices → Devices → Type 0
+SessionServed status before now = (ended : Ended) × (status ≡ status_of ended) × ServedUntil ended before now

@@ -1,11 +1,15 @@
 -- What the machine answers to a request, and what it changes: a function of the tables, the request and the moment.
-use Rattle.std.specs.Prelude.{ℕ, Bool, true, false, not, ◌==◌, ◌+◌, List, [], ◌∷◌, length, codes, bytes_eq, Option, Some, None, Result, Ok, Err, unwrap_or, if◌then◌else◌}
+use Rattle.std.specs.Prelude.{ℕ, Bool, true, false, not, ◌==◌, ◌+◌, List, [], ◌∷◌, length, codes, bytes_eq, Option, Some, None, Result, Ok, Err, unwrap_or, option_map, if◌then◌else◌}
 use Rattle.cds_trace.specs.Refusal.{number_of_refusal, record_of_refusal}
 use Rattle.cds_trace.specs.Signal.{Signal}
 use Rattle.cds_trace.specs.TraceText.{csv_trace}
 use Rattle.cds_trace.specs.WrittenText.{csv_text}
 use Rattle.cds_trace.specs.declared.error.TraceError.{TraceError}
-use Rattle.cds_book.specs.Tables.{TablesState, trace_of, trace_versions_of}
+use Rattle.cds_rules.specs.Fields.{Fields}
+use Rattle.cds_rules.specs.Refusal.{number_of_refusal as number_of_method_refusal, field_of_refusal}
+use Rattle.cds_rules.specs.Stated.{stated}
+use Rattle.cds_rules.specs.declared.error.MethodError.{MethodError}
+use Rattle.cds_book.specs.Tables.{TablesState, trace_of, trace_versions_of, draft_of, method_of, method_versions_of}
 use Rattle.cds_book.specs.Plan.{planned, applied}
 use Rattle.cds_book.specs.declared.command.Command.{Command}
 use Rattle.cds_book.specs.declared.command.Command.TheVariants as command
@@ -17,12 +21,16 @@ use Rattle.cds_book.specs.declared.error.PlanError.TheVariants as refused
 use Rattle.cds_codec.specs.Record.{record_of}
 use Rattle.cds_http.specs.Items.{Message}
 use Rattle.cds_wire.specs.Reply.{reply_text}
+use Rattle.cds_wire.specs.Stated.{body as stated_in, freeze_of}
+use Rattle.cds_wire.specs.declared.error.BodyError.{BodyError}
+use Rattle.cds_wire.specs.declared.error.BodyError.TheVariants as body_error
 use Rattle.cds_wire.specs.declared.answer.Answer.{Answer}
 use Rattle.cds_wire.specs.declared.answer.Answer.TheVariants as answer
 use Rattle.cds_wire.specs.declared.answer.Shown.{Shown}
 use Rattle.cds_wire.specs.declared.answer.Shown.TheVariants.{Number, Word}
-use Rattle.cds_desk.specs.Routes.{target_of, route_of, method_of}
+use Rattle.cds_desk.specs.Routes.{target_of, route_of, method_of as method_on}
 use Rattle.cds_desk.specs.declared.judge.Judged.{Judged}
+use Rattle.cds_desk.specs.declared.reply.Content.{Content}
 use Rattle.cds_desk.specs.declared.reply.Content.TheVariants as content
 use Rattle.cds_desk.specs.declared.reply.Reply.{Reply}
 use Rattle.cds_desk.specs.declared.target.Target.{Target}
@@ -58,9 +66,25 @@ keeper_reply = refusal_reply 503 (codes "keeper") 0 (Number 0)
 abbrev pub csv_reply : TraceError → Reply
 csv_reply error = refusal_reply 400 (codes "csv") (unwrap_or (number_of_refusal error) 0) (Number (unwrap_or (record_of_refusal error) 0))
 
+-- the text states no method: the number of the refusal, and the field or the name at fault
+abbrev pub toml_reply : MethodError → Reply
+toml_reply error = refusal_reply 400 (codes "toml") (unwrap_or (number_of_method_refusal error) 0) (Word (field_of_refusal error))
+
+-- the body states nothing: it is no JSON, or a field is refused; want of memory is no refusal
+abbrev pub body_reply : BodyError → Reply
+body_reply body_error.Json = refusal_reply 400 (codes "json") 0 (Word [])
+body_reply (body_error.Field path) = refusal_reply 400 (codes "field") 0 (Word path)
+body_reply body_error.NoMemory = memory_reply
+
 -- what a path names isn't there
 abbrev pub absent_reply : ℕ → Shown → Reply
 absent_reply number value = refusal_reply 404 (codes "absent") number value
+
+-- A version isn't there: the version is shown where the name has versions or a draft, and else the name, with this
+-- number of refusal.
+abbrev pub absent_version : ℕ → List ℕ → ℕ → Option ℕ → Reply
+absent_version number name version (Some count) = absent_reply 3 (Number version)
+absent_version number name version None = absent_reply number (Word name)
 
 -- what the tables refuse; want of memory is no refusal of theirs
 abbrev pub plan_reply : PlanError → Reply
@@ -75,39 +99,61 @@ plan_reply refused.NoMemory = memory_reply
 abbrev pub only : Reply → Judged
 only reply = record { reply = reply; change = None }
 
--- how many versions the trace has
-abbrev pub version_count : TablesState → List ℕ → ℕ
-version_count tables name = unwrap_or (trace_versions_of tables name) 0
+-- what a command comes to: `same` where it changes nothing, `made` with the change, or what the tables refuse
+abbrev pub decided : Result Plan PlanError → Reply → Reply → Judged
+decided (Ok plan.Unchanged) same made = only same
+decided (Ok (plan.Change change)) same made = record { reply = made; change = Some change }
+decided (Err error) same made = only (plan_reply error)
 
--- a trace is put: unchanged where it equals the latest version, else its next version
-abbrev pub trace_planned : TablesState → List ℕ → Signal → Result Plan PlanError → Judged
-trace_planned tables name signal (Ok plan.Unchanged) =
-    only (answered 200 (answer.Trace (length signal.samples) true (version_count tables name)))
-trace_planned tables name signal (Ok (plan.Change change)) =
-    record { reply = answered 201 (answer.Trace (length signal.samples) false (version_count tables name + 1)); change = Some change }
-trace_planned tables name signal (Err error) = only (plan_reply error)
+-- the reply with the text of a version, where it is there
+abbrev pub version_shown : ℕ → List ℕ → ℕ → Option ℕ → Content → Option (List ℕ) → Judged
+version_shown number name version count media (Some text) = only (record { status = 200; content = media; allow = None; body = text })
+version_shown number name version count media None = only (absent_version number name version count)
 
--- a trace that is stated is put; a text that states none is refused
+-- a trace that is stated is put: unchanged where it equals the latest version, else its next version
 abbrev pub trace_put : TablesState → List ℕ → Result Signal TraceError → Judged
-trace_put tables name (Ok signal) = trace_planned tables name signal (planned tables (command.Trace name signal))
+trace_put tables name (Ok signal) =
+    let samples = length signal.samples in
+    let count = unwrap_or (trace_versions_of tables name) 0 in
+    decided (planned tables (command.Trace name signal)) (answered 200 (answer.Trace samples true count)) (answered 201 (answer.Trace samples false (count + 1)))
 trace_put tables name (Err error) = only (csv_reply error)
 
--- the text of a version of a trace
-abbrev pub trace_found : List ℕ → ℕ → Option ℕ → Option Signal → Judged
-trace_found name version count (Some signal) = only (record { status = 200; content = content.Csv; allow = None; body = csv_text signal })
-trace_found name version (Some count) None = only (absent_reply 3 (Number version))
-trace_found name version None None = only (absent_reply 1 (Word name))
+-- a first draft is made, and a later one only replaced
+abbrev pub draft_status : Option (List ℕ) → ℕ
+draft_status None = 201
+draft_status (Some draft) = 200
+
+-- a draft is put: unchanged where it equals the one that is there
+abbrev pub draft_decided : TablesState → List ℕ → List ℕ → Judged
+draft_decided tables name text =
+    decided (planned tables (command.Draft name text)) (answered 200 (answer.Draft true)) (answered (draft_status (draft_of tables name)) (answer.Draft false))
+
+-- a text that states a method is put as the draft, as it was sent
+abbrev pub draft_put : TablesState → List ℕ → List ℕ → Result Fields MethodError → Judged
+draft_put tables name text (Ok method) = draft_decided tables name text
+draft_put tables name text (Err error) = only (toml_reply error)
+
+-- the draft is frozen as the version that the body names: unchanged where it equals the latest version
+abbrev pub draft_frozen : TablesState → List ℕ → Result ℕ BodyError → Judged
+draft_frozen tables name (Ok version) =
+    let count = unwrap_or (method_versions_of tables name) 0 in
+    decided (planned tables (command.Freeze name version)) (answered 200 (answer.Freeze true count)) (answered 201 (answer.Freeze false version))
+draft_frozen tables name (Err error) = only (body_reply error)
 
 -- what is judged of a request with the right method
 abbrev pub judged_target : TablesState → Target → List ℕ → Judged
 judged_target tables (target.Trace name) body = trace_put tables name (csv_trace body)
 judged_target tables (target.TraceVersion name version) body =
-    trace_found name version (trace_versions_of tables name) (trace_of tables name version)
+    version_shown 1 name version (trace_versions_of tables name) content.Csv (option_map csv_text (trace_of tables name version))
+judged_target tables (target.Draft name) body = draft_put tables name body (stated body)
+judged_target tables (target.MethodVersions name) body = draft_frozen tables name (stated_in freeze_of body)
+judged_target tables (target.MethodVersion name version) body =
+    version_shown 2 name version (method_versions_of tables name) content.Toml (method_of tables name version)
 
 -- the method is judged after the route
 abbrev pub judged_method : TablesState → Target → List ℕ → List ℕ → Judged
 judged_method tables t method body =
-    if bytes_eq method (method_of (route_of t)) then judged_target tables t body else only (other_method (method_of (route_of t)))
+    if bytes_eq method (method_on (route_of t)) then judged_target tables t body else only (other_method (method_on (route_of t)))
 
 -- the route is judged first
 abbrev pub judged_route : TablesState → Option Target → List ℕ → List ℕ → Judged

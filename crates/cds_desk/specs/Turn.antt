@@ -41,13 +41,14 @@ answered_text NoMemory close without_body = memory_text close without_body
 answered_text KeeperFailed close without_body = keeper_text close without_body
 
 -- what comes of a request that was judged so: its response, with what it changes; or that memory was wanting, or the
--- keeper failed, and nothing is changed
+-- keeper failed, and nothing is changed. The keeper's count rises only where the answer says that it failed, so a put that
+-- failed is neither tried again nor told as another answer.
 abbrev pub Comes : World → World → Judged → List ℕ → Answered → Type 0
 Comes before now j text (Response response) =
     (response ≡ text)
     × (now.tables ≡ after_change before.tables j.change)
     × (now.content ≡ option_map (λ list. list ++ records_of j.change) before.content)
-    × (before.faults ≤ now.faults)
-Comes before now j text NoMemory = (now.tables ≡ before.tables) × (now.content ≡ before.content) × (before.faults ≤ now.faults)
+    × (now.faults ≡ before.faults)
+Comes before now j text NoMemory = (now.tables ≡ before.tables) × (now.content ≡ before.content) × (now.faults ≡ before.faults)
 Comes before now j text KeeperFailed =
     IsTrue (is_some j.change) × (now.tables ≡ before.tables) × (now.content ≡ before.content) × Rose before.faults now.faults

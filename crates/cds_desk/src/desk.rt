@@ -14,6 +14,7 @@ use std::sync::ledger::Ledger;
 /// The server's desk: the tables, and the routes over them. Seen as what the tables hold.
 #[derive(Drop)]
 pub struct Desk {
+    pub(crate) alloc: Global,
     pub(crate) router: Router<Route>,
     pub(crate) tables: Tables,
 }
@@ -62,6 +63,7 @@ impl Desk {
             return Err(OpenError::Damaged(1));
         }
         Ok(Desk {
+            alloc,
             router: route_table(alloc)?,
             tables: Tables::new(alloc),
         })

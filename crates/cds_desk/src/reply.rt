@@ -14,6 +14,8 @@ pub(crate) enum Content {
     Json,
     /// CSV, as a trace's text is.
     Csv,
+    /// TOML, as a method's text is.
+    Toml,
 }
 
 /// What is answered to a request.

@@ -112,6 +112,7 @@ fn media_type(content: Content) -> &'static [u8]
     match content {
         Content::Json => b"application/json",
         Content::Csv => b"text/csv",
+        Content::Toml => b"application/toml",
     }
 }
 

@@ -16,6 +16,12 @@ pub(crate) enum Route {
     PutTrace,
     /// The text of a trace's version is read.
     GetTrace,
+    /// The draft of a method is put.
+    PutDraft,
+    /// The draft of a method is frozen as its next version.
+    PostVersion,
+    /// The text of a method's version is read.
+    GetMethod,
 }
 
 impl Route {
@@ -26,6 +32,9 @@ impl Route {
         match self {
             Route::PutTrace => "/traces/{name}",
             Route::GetTrace => "/traces/{name}/{version}",
+            Route::PutDraft => "/methods/{name}/draft",
+            Route::PostVersion => "/methods/{name}/versions",
+            Route::GetMethod => "/methods/{name}/versions/{version}",
         }
     }
 
@@ -34,8 +43,9 @@ impl Route {
         ensures { result ≡ method_of self }
     {
         match self {
-            Route::PutTrace => Method::PUT,
-            Route::GetTrace => Method::GET,
+            Route::PutTrace | Route::PutDraft => Method::PUT,
+            Route::GetTrace | Route::GetMethod => Method::GET,
+            Route::PostVersion => Method::POST,
         }
     }
 }
@@ -47,6 +57,9 @@ pub(crate) fn route_table(alloc: Global) -> Result<Router<Route>, NoMemory>
     let mut router = Router::new(alloc);
     add(&mut router, Route::PutTrace)?;
     add(&mut router, Route::GetTrace)?;
+    add(&mut router, Route::PutDraft)?;
+    add(&mut router, Route::PostVersion)?;
+    add(&mut router, Route::GetMethod)?;
     Ok(router)
 }
 

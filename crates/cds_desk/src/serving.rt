@@ -8,7 +8,7 @@ ghost use Rattle.cds_http.specs.Items.{request as request_item, fault as fault_i
 ghost use Rattle.cds_http.specs.Stream.{message_of, IsRequestIn, room_of, ItemsFrom};
 ghost use Rattle.cds_http.specs.declared.next.Fault.{Fault};
 ghost use Rattle.cds_http.specs.declared.next.Next.TheVariants as next;
-ghost use Rattle.cds_desk.specs.Serving.{world, reading, ItemServed, ItemBroken, IsDone, IsRefused, IsUnread, IsBroken, ReadOn};
+ghost use Rattle.cds_desk.specs.Serving.{world, reading, ItemServed, ItemBroken, EndsAs, ReadOn};
 ghost use Rattle.cds_desk.specs.Service.{fault_text};
 ghost use Rattle.cds_desk.specs.Turn.{Asks};
 
@@ -52,7 +52,6 @@ impl Desk {
     /// or written. No request asks the clock or takes a step yet.
     pub fn serve_connection<S: Source, W: Sink, K: Keeper, C: Clock, L: Ledger>(
         &mut self,
-        alloc: Global,
         source: &mut S,
         sink: &mut W,
         keeper: &mut K,
@@ -60,12 +59,10 @@ impl Desk {
         steps: &mut Steps<L>,
     ) -> Ended
         requires { K.is_open keeper.old ≡ true }
-        ensures done { result ≡ Ended.Done → IsDone (world (W.written sink.old) (K.content keeper.old) (K.faults keeper.old) self.old) (world (W.written sink.new) (K.content keeper.new) (K.faults keeper.new) self.new) (reading (S.given source.old) (S.left source.old)) (reading (S.given source.new) (S.left source.new)) }
-        ensures refused { result ≡ Ended.Refused → IsRefused (world (W.written sink.old) (K.content keeper.old) (K.faults keeper.old) self.old) (world (W.written sink.new) (K.content keeper.new) (K.faults keeper.new) self.new) (reading (S.given source.old) (S.left source.old)) (reading (S.given source.new) (S.left source.new)) }
-        ensures unread { result ≡ Ended.SourceFailed → IsUnread (world (W.written sink.old) (K.content keeper.old) (K.faults keeper.old) self.old) (world (W.written sink.new) (K.content keeper.new) (K.faults keeper.new) self.new) (reading (S.given source.old) (S.left source.old)) (reading (S.given source.new) (S.left source.new)) }
+        ensures ends { EndsAs result (world (W.written sink.old) (K.content keeper.old) (K.faults keeper.old) self.old) (world (W.written sink.new) (K.content keeper.new) (K.faults keeper.new) self.new)
+            (reading (S.given source.old) (S.left source.old)) (reading (S.given source.new) (S.left source.new)) }
         ensures failed_read { result ≢ Ended.SourceFailed → S.faults source.new ≡ S.faults source.old }
         ensures source_failed { result ≡ Ended.SourceFailed → Rose (S.faults source.old) (S.faults source.new) }
-        ensures broken { result ≡ Ended.SinkFailed → IsBroken (world (W.written sink.old) (K.content keeper.old) (K.faults keeper.old) self.old) (world (W.written sink.new) (K.content keeper.new) (K.faults keeper.new) self.new) (reading (S.given source.old) (S.left source.old)) (reading (S.given source.new) (S.left source.new)) }
         ensures sink_failed { result ≡ Ended.SinkFailed → Rose (W.faults sink.old) (W.faults sink.new) }
         ensures no_memory { result ≡ Ended.NoMemory → (self.new ≡ self.old) × (source.new ≡ source.old) × (sink.new ≡ sink.old) × (keeper.new ≡ keeper.old) }
         ensures stays_open { K.is_open keeper.new ≡ true }
@@ -75,10 +72,10 @@ impl Desk {
         ensures clock_stays { clock.new ≡ clock.old }
         ensures steps { steps.new ≡ steps.old }
     {
-        let Ok(mut messages) = Messages::new(alloc) else {
+        let Ok(mut messages) = Messages::new(self.alloc) else {
             return Ended::NoMemory;
         };
-        let Ok(mut piece) = room(alloc, PIECE_BYTES) else {
+        let Ok(mut piece) = room(self.alloc, PIECE_BYTES) else {
             return Ended::NoMemory;
         };
         loop {
@@ -93,7 +90,7 @@ impl Desk {
                     Err(Failed) => return Ended::SinkFailed,
                 },
                 Next::Request(request) => {
-                    match self.serve(alloc, &messages, request, sink, keeper) {
+                    match self.serve(&messages, request, sink, keeper) {
                         Ok(()) => messages.done(),
                         Err(Failed) => return Ended::SinkFailed,
                     }
@@ -112,7 +109,6 @@ impl Desk {
     /// Serves a request: what is answered to it is written, and what it changes is kept and carried out.
     fn serve<W: Sink, K: Keeper>(
         &mut self,
-        alloc: Global,
         messages: &Messages,
         request: Request,
         sink: &mut W,
@@ -128,7 +124,7 @@ impl Desk {
         ensures keeper_counts { K.faults keeper.old ≤ K.faults keeper.new }
     {
         let asked = asked_in(messages.bytes(), request);
-        let answered = answer(alloc, &self.router, &mut self.tables, keeper, asked);
+        let answered = answer(self.alloc, &self.router, &mut self.tables, keeper, asked);
         write_answer(sink, &answered, asked.close, asked.without_body)
     }
 }

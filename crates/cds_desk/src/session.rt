@@ -1,8 +1,8 @@
-ghost use Rattle.std.specs.Prelude.{◌≡◌, ◌≢◌, ◌≤◌, ℕ, [], true, false, Some, None, IfSome};
+ghost use Rattle.std.specs.Prelude.{◌≡◌, ◌≢◌, ◌⊎◌, ◌≤◌, ℕ, [], true, false, Some, None, IfSome};
 ghost use Rattle.cds_base.specs.Faults.{Rose};
-ghost use Rattle.cds_desk.specs.Run.{Sent, IsStatus, EndsUnserved};
-ghost use Rattle.cds_desk.specs.Serving.{reading, IsDone, IsRefused, IsUnread, IsBroken};
-ghost use Rattle.cds_desk.specs.Session.{SessionOf, status_of, damage_of, damaged_line};
+ghost use Rattle.cds_desk.specs.Run.{Sent, IsStatus, IsServed, EndsUnserved};
+ghost use Rattle.cds_desk.specs.Serving.{reading};
+ghost use Rattle.cds_desk.specs.Session.{devices, SessionServed, status_of, damage_of, damaged_line};
 
 use crate::answer::{DONE, REFUSED};
 use crate::desk::{Desk, OpenError};
@@ -24,15 +24,16 @@ pub(crate) fn session<S: Source, W: Sink, K: Keeper, C: Clock, L: Ledger>(
     clock: &mut C,
     steps: &mut Steps<L>,
 ) -> u8
-    ensures done { result ≡ 0 → SessionOf IsDone (K.finds keeper.old []) (W.written sink.old) (K.faults keeper.old) (W.written sink.new) (K.content keeper.new) (K.faults keeper.new) (reading (S.given source.old) (S.left source.old)) (reading (S.given source.new) (S.left source.new)) }
-    ensures refused { result ≡ 1 → SessionOf IsRefused (K.finds keeper.old []) (W.written sink.old) (K.faults keeper.old) (W.written sink.new) (K.content keeper.new) (K.faults keeper.new) (reading (S.given source.old) (S.left source.old)) (reading (S.given source.new) (S.left source.new)) }
-    ensures unread { result ≡ 3 → SessionOf IsUnread (K.finds keeper.old []) (W.written sink.old) (K.faults keeper.old) (W.written sink.new) (K.content keeper.new) (K.faults keeper.new) (reading (S.given source.old) (S.left source.old)) (reading (S.given source.new) (S.left source.new)) }
-    ensures broken { result ≡ 4 → SessionOf IsBroken (K.finds keeper.old []) (W.written sink.old) (K.faults keeper.old) (W.written sink.new) (K.content keeper.new) (K.faults keeper.new) (reading (S.given source.old) (S.left source.old)) (reading (S.given source.new) (S.left source.new)) }
+    ensures served { IsServed result → SessionServed result
+        (devices (reading (S.given source.old) (S.left source.old)) (W.written sink.old) (K.finds keeper.old []) (K.content keeper.old) (K.faults keeper.old))
+        (devices (reading (S.given source.new) (S.left source.new)) (W.written sink.new) (K.finds keeper.new []) (K.content keeper.new) (K.faults keeper.new)) }
     ensures keeper_failed { result ≡ 5 → Rose (K.faults keeper.old) (K.faults keeper.new) × (source.new ≡ source.old) × (sink.new ≡ sink.old) × (K.is_open keeper.new ≡ false) }
     ensures damaged { result ≡ 8 → (number : ℕ) × IfSome (K.finds keeper.old []) (λ found. damage_of found ≡ Some number)
         × Sent (W.written sink.old) (W.written sink.new) (W.faults sink.old) (W.faults sink.new) (damaged_line number) }
     ensures damaged_reads_nothing { result ≡ 8 → source.new ≡ source.old }
     ensures damaged_only { IfSome (K.finds keeper.old []) (λ found. damage_of found ≢ None → EndsUnserved result) }
+    ensures unserved_stores_nothing { EndsUnserved result → K.finds keeper.new [] ≡ K.finds keeper.old [] }
+    ensures count_stays { (result ≡ 6) ⊎ (result ≡ 8) → K.faults keeper.new ≡ K.faults keeper.old }
     ensures is_command { result ≢ 2 }
     ensures failed_read { result ≢ 3 → S.faults source.new ≡ S.faults source.old }
     ensures source_failed { result ≡ 3 → Rose (S.faults source.old) (S.faults source.new) }
@@ -56,7 +57,7 @@ pub(crate) fn session<S: Source, W: Sink, K: Keeper, C: Clock, L: Ledger>(
         Err(OpenError::NoMemory) => return NO_MEMORY,
         Err(OpenError::Damaged(number)) => return tell_damage(sink, number),
     };
-    let ended = desk.serve_connection(alloc, source, sink, keeper, clock, steps);
+    let ended = desk.serve_connection(source, sink, keeper, clock, steps);
     status_of(ended)
 }
 

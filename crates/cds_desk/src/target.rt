@@ -1,6 +1,6 @@
 ghost use Rattle.std.specs.Prelude.{◌≡◌, ◌==◌, get_or, Some};
 ghost use Rattle.std.specs.List.{before_first, after_first};
-ghost use Rattle.cds_desk.specs.Routes.{route_table, is_slash, is_question_mark, path_of, name_part, behind_name, path_number, named_on, version_named, target_of, route_of};
+ghost use Rattle.cds_desk.specs.Routes.{route_table, is_slash, is_question_mark, path_of, name_part, behind_name, behind_versions, path_number, named_on, trace_version, method_version, target_of, route_of};
 
 use crate::routes::{Route, find};
 use crate::words::number_in;
@@ -17,6 +17,12 @@ pub(crate) enum Target {
     Trace(Name),
     /// A version of a trace, by the trace's name and the version's number.
     TraceVersion(Name, u32),
+    /// The draft of a method, by the method's name.
+    Draft(Name),
+    /// The versions of a method, by its name.
+    MethodVersions(Name),
+    /// A version of a method, by the method's name and the version's number.
+    MethodVersion(Name, u32),
 }
 
 impl Target {
@@ -27,6 +33,9 @@ impl Target {
         match self {
             Target::Trace(_) => Route::PutTrace,
             Target::TraceVersion(_, _) => Route::GetTrace,
+            Target::Draft(_) => Route::PutDraft,
+            Target::MethodVersions(_) => Route::PostVersion,
+            Target::MethodVersion(_, _) => Route::GetMethod,
         }
     }
 }
@@ -105,6 +114,13 @@ fn begins_with_zero(part: &str) -> bool
     part.is_empty() || part.as_bytes()[0] == b'0'
 }
 
+/// What stands behind `versions` and its slash.
+fn behind_versions(path: &str) -> &str
+    ensures { result.now ≡ behind_versions path.now }
+{
+    after_slash(behind_name(path))
+}
+
 /// What the path names on this route.
 fn named_on(route: Route, path: &str) -> Option<Target>
     ensures { result ≡ named_on route path.now }
@@ -114,16 +130,29 @@ fn named_on(route: Route, path: &str) -> Option<Target>
     };
     match route {
         Route::PutTrace => Some(Target::Trace(name)),
-        Route::GetTrace => version_of(name, behind_name(path)),
+        Route::GetTrace => trace_version(name, behind_name(path)),
+        Route::PutDraft => Some(Target::Draft(name)),
+        Route::PostVersion => Some(Target::MethodVersions(name)),
+        Route::GetMethod => method_version(name, behind_versions(path)),
     }
 }
 
 /// The version of a trace that this part of a path numbers.
-fn version_of(name: Name, part: &str) -> Option<Target>
-    ensures { result ≡ version_named (Some name) (path_number part.now) }
+fn trace_version(name: Name, part: &str) -> Option<Target>
+    ensures { result ≡ trace_version name (path_number part.now) }
 {
     let Some(version) = path_number(part) else {
         return None;
     };
     Some(Target::TraceVersion(name, version))
+}
+
+/// The version of a method that this part of a path numbers.
+fn method_version(name: Name, part: &str) -> Option<Target>
+    ensures { result ≡ method_version name (path_number part.now) }
+{
+    let Some(version) = path_number(part) else {
+        return None;
+    };
+    Some(Target::MethodVersion(name, version))
 }

@@ -5,9 +5,9 @@ ghost use Rattle.cds_base.specs.Told.{then_more};
 ghost use Rattle.cds_rules.specs.Ranges.{SlopeRanges};
 ghost use Rattle.cds_desk.specs.Sending.{HoldsPrefix};
 ghost use Rattle.cds_desk.specs.Words.{options_of, is_session, States};
-ghost use Rattle.cds_desk.specs.Run.{Sent, OfAnswer, OfBytes, IsStatus, EndsUnserved, usage_line};
-ghost use Rattle.cds_desk.specs.Serving.{reading, IsDone, IsRefused, IsUnread, IsBroken};
-ghost use Rattle.cds_desk.specs.Session.{SessionOf, damage_of, damaged_line};
+ghost use Rattle.cds_desk.specs.Run.{Sent, OfAnswer, OfBytes, IsStatus, IsServed, EndsUnserved, usage_line};
+ghost use Rattle.cds_desk.specs.Serving.{reading};
+ghost use Rattle.cds_desk.specs.Session.{devices, SessionServed, damage_of, damaged_line};
 
 use crate::answer::{Answer, DONE, REFUSED, peaks_answer};
 use crate::receiving::{ReceiveError, receive};
@@ -91,16 +91,17 @@ pub fn run<S: Source, W: Sink, K: Keeper, C: Clock, D: Door, L: Ledger>(
 
     // ---- `session`, from the tables of the store that the load found
 
-    ensures session_done { result ≡ 0 → is_session (map string_bytes words.now) ≡ true → SessionOf IsDone (K.finds keeper.old []) (W.written sink.old) (K.faults keeper.old) (W.written sink.new) (K.content keeper.new) (K.faults keeper.new) (reading (S.given source.old) (S.left source.old)) (reading (S.given source.new) (S.left source.new)) }
-    ensures session_refused { result ≡ 1 → is_session (map string_bytes words.now) ≡ true → SessionOf IsRefused (K.finds keeper.old []) (W.written sink.old) (K.faults keeper.old) (W.written sink.new) (K.content keeper.new) (K.faults keeper.new) (reading (S.given source.old) (S.left source.old)) (reading (S.given source.new) (S.left source.new)) }
-    ensures session_unread { result ≡ 3 → is_session (map string_bytes words.now) ≡ true → SessionOf IsUnread (K.finds keeper.old []) (W.written sink.old) (K.faults keeper.old) (W.written sink.new) (K.content keeper.new) (K.faults keeper.new) (reading (S.given source.old) (S.left source.old)) (reading (S.given source.new) (S.left source.new)) }
-    ensures session_broken { result ≡ 4 → is_session (map string_bytes words.now) ≡ true → SessionOf IsBroken (K.finds keeper.old []) (W.written sink.old) (K.faults keeper.old) (W.written sink.new) (K.content keeper.new) (K.faults keeper.new) (reading (S.given source.old) (S.left source.old)) (reading (S.given source.new) (S.left source.new)) }
+    ensures session_served { is_session (map string_bytes words.now) ≡ true → IsServed result → SessionServed result
+        (devices (reading (S.given source.old) (S.left source.old)) (W.written sink.old) (K.finds keeper.old []) (K.content keeper.old) (K.faults keeper.old))
+        (devices (reading (S.given source.new) (S.left source.new)) (W.written sink.new) (K.finds keeper.new []) (K.content keeper.new) (K.faults keeper.new)) }
     ensures keeper_failed { result ≡ 5 → (is_session (map string_bytes words.now) ≡ true) × Rose (K.faults keeper.old) (K.faults keeper.new) }
     ensures keeper_failed_touches_nothing { result ≡ 5 → (source.new ≡ source.old) × (sink.new ≡ sink.old) × (K.is_open keeper.new ≡ false) }
     ensures damaged { result ≡ 8 → (is_session (map string_bytes words.now) ≡ true) × ((number : ℕ) × IfSome (K.finds keeper.old []) (λ found. damage_of found ≡ Some number)
         × Sent (W.written sink.old) (W.written sink.new) (W.faults sink.old) (W.faults sink.new) (damaged_line number)) }
     ensures damaged_reads_nothing { result ≡ 8 → source.new ≡ source.old }
     ensures damaged_only { is_session (map string_bytes words.now) ≡ true → IfSome (K.finds keeper.old []) (λ found. damage_of found ≢ None → EndsUnserved result) }
+    ensures unserved_stores_nothing { is_session (map string_bytes words.now) ≡ true → EndsUnserved result → K.finds keeper.new [] ≡ K.finds keeper.old [] }
+    ensures unserved_count_stays { is_session (map string_bytes words.now) ≡ true → (result ≡ 6) ⊎ (result ≡ 8) → K.faults keeper.new ≡ K.faults keeper.old }
     ensures session_without_memory_reads_nothing { result ≡ 6 → is_session (map string_bytes words.now) ≡ true → source.new ≡ source.old }
     ensures session_takes_no_step { is_session (map string_bytes words.now) ≡ true → steps.new ≡ steps.old }
 

@@ -1,4 +1,5 @@
-ghost use Rattle.std.specs.Prelude.{◌≡◌, ◌+◌, ◌-◌, ◌^◌, ◌≤◌, ◌↔◌, [], false, min, IfOk, IsTrue, Some, Contains, if◌then◌else◌};
+ghost use Rattle.std.specs.Prelude.{◌≡◌, ◌≢◌, ◌+◌, ◌-◌, ◌^◌, ◌<◌, ◌≤◌, ◌↔◌, ◌⊎◌, ◌∷◌, ◌++◌, [], true, false, length, min, is_ok, IfOk, IsOk, OnOk, OnErr, Err, IsTrue, Some, Contains, if◌then◌else◌};
+ghost use Rattle.cds_base.specs.Faults.{Rose};
 ghost use Rattle.cds_keep.specs.Found.{records};
 
 use crate::error::{LoadError, PutError};
@@ -82,7 +83,19 @@ impl Keeper for MapKeeper {
 
     ghost faults = { λ s. s.faults };
 
-    fn load(&mut self, _store: &str) -> Result<Records, LoadError> {
+    /// As the trait says. It fails exactly at the calls that are to fail, and finds no record damaged.
+    fn load(&mut self, _store: &str) -> Result<Records, LoadError>
+        ensures opened { self.new.is_open ≡ is_ok result }
+        ensures found { IfOk result (λ list. list ≡ self.old.content) }
+        ensures content_stays { self.new.content ≡ self.old.content }
+        ensures fails { (result ≡ Err LoadError.Failed) ↔ Contains self.old.failing self.new.calls }
+        ensures undamaged { (result ≡ Err LoadError.Failed) ⊎ (result ≡ Err LoadError.NoMemory) ⊎ IsOk result }
+        ensures calls { self.new.calls ≡ min (self.old.calls + 1) (2 ^ 64 - 1) }
+        ensures failing_stays { self.new.failing ≡ self.old.failing }
+        ensures counts { self.old.faults ≤ self.new.faults }
+        ensures failed { result ≡ Err LoadError.Failed → Rose self.old.faults self.new.faults }
+        ensures count_stays { result ≢ Err LoadError.Failed → self.new.faults ≡ self.old.faults }
+    {
         self.is_open = false;
         if self.fails() {
             return Err(LoadError::Failed);
@@ -92,7 +105,20 @@ impl Keeper for MapKeeper {
         Ok(records)
     }
 
-    fn put(&mut self, body: &[u8]) -> Result<(), PutError> {
+    /// As the trait says. It fails exactly at the calls that are to fail.
+    fn put(&mut self, body: &[u8]) -> Result<(), PutError>
+        requires opened { self.old.is_open ≡ true }
+        requires short { length body.now < 2 ^ 32 }
+        ensures stays_open { self.new.is_open ≡ true }
+        ensures appended { OnOk result (self.new.content ≡ self.old.content ++ body.now ∷ []) }
+        ensures as_before { OnErr result (self.new.content ≡ self.old.content) }
+        ensures fails { (result ≡ Err PutError.Failed) ↔ Contains self.old.failing self.new.calls }
+        ensures calls { self.new.calls ≡ min (self.old.calls + 1) (2 ^ 64 - 1) }
+        ensures failing_stays { self.new.failing ≡ self.old.failing }
+        ensures counts { self.old.faults ≤ self.new.faults }
+        ensures failed { result ≡ Err PutError.Failed → Rose self.old.faults self.new.faults }
+        ensures count_stays { result ≢ Err PutError.Failed → self.new.faults ≡ self.old.faults }
+    {
         if self.fails() {
             return Err(PutError::Failed);
         }

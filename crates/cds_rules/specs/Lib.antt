@@ -4,3 +4,4 @@ pub mod Section
 pub mod Values
 pub mod Seen
 pub mod Stated
+pub mod Refusal

@@ -168,28 +168,12 @@ const REFUSALS: [(&str, &str, u8, &str); 48] = [
     ),
 ];
 
-fn number_and_text(error: &MethodError) -> (u8, &[u8]) {
-    match error {
-        MethodError::NotToml => (1, b""),
-        MethodError::Missing(field) => (2, field.as_str().as_bytes()),
-        MethodError::Unknown(field) => (3, field.as_str().as_bytes()),
-        MethodError::Range(field) => (4, field.as_str().as_bytes()),
-        MethodError::TwoComponents(name) => (5, name.as_bytes()),
-        MethodError::TooMany(field) => (6, field.as_str().as_bytes()),
-        MethodError::TooLong => (7, b""),
-        MethodError::NoMemory => (8, b""),
-    }
-}
-
 fn is_refused(alloc: Global, case: &(&str, &str, u8, &str)) -> Result<bool, AllocError> {
     let (part, instead, number, shown) = case;
     let text = TEXT.replacen(alloc, *part, *instead, 1)?;
     match Method::read_toml(alloc, text.as_bytes()) {
         Ok(_) => Ok(false),
-        Err(error) => {
-            let (found, told) = number_and_text(&error);
-            Ok(found == *number && told == shown.as_bytes())
-        }
+        Err(error) => { Ok(error.number() == Some(*number) && error.field() == shown.as_bytes()) }
     }
 }
 

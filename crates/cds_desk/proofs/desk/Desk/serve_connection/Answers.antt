@@ -1,10 +1,10 @@
-use Rattle.std.proofs.Common.{◌≡◌, ◌∙◌, ◌<◌, false, List, [], length, refl, sym, ap, rules, arith}
+use Rattle.std.proofs.Common.{◌≡◌, ◌∙◌, ◌<◌, false, List, [], length, refl, sym, ap, inl, inr, rules, arith}
 use Rattle.cds_http.specs.Items.{continue, fault}
 use Rattle.cds_http.specs.Stream.{Stream, fault_in, request_in, dropped, AddsRequest}
 use Rattle.cds_http.proofs.SizeLemmas.{request_some}
 use Rattle.cds_desk.specs.Service.{fault_text}
 use Rattle.cds_desk.specs.Response.{continue_text}
-use Rattle.cds_desk.proofs.ServingLaws.{so_far_nothing, so_far_end, so_far_read, done_at_end, refused_at, unread_at, broken_at, broken_at_end, item_written, item_broken, more_step, continue_step, request_step, close_step, broken_step, after_read, after_request, bounded_by, measure_less, of_some}
+use Rattle.cds_desk.proofs.ServingLaws.{so_far_nothing, so_far_end, so_far_read, done_at_end, refused_at, unread_at, broken_at, broken_at_end, item_written, item_broken, more_step, continue_step, request_step, close_step, broken_step, after_read, ends_by, after_request, bounded_by, measure_less, of_some}
 use Rattle.cds_desk.proofs.desk.Desk.serve_connection.Goals as goal
 
 pub loop-source-init : goal.loop-source-init
@@ -21,29 +21,17 @@ loop-source-init g c = record {
   keeper_counts = omega arith;
 }
 
-pub returns-in-Ok-eq0-clause-done : goal.returns-in-Ok-eq0-clause-done
-returns-in-Ok-eq0-clause-done g c = λ is.
+pub returns-in-Ok-eq0-clause-ends : goal.returns-in-Ok-eq0-clause-ends
+returns-in-Ok-eq0-clause-ends g c =
     let more = more_step _ _ _ _ _ _ c.in-More.ensures.after c.loop-source.invariant.so_far in
     let none : c.in-Ok-eq0.field-0 ≡ 0 = search rules in
     let last = so_far_end _ _ _ _ _ _ _ _ more c.in-Ok-eq0.ensures.read none in
-    let all = c.finish.ensures.done is in
-    rw all.1 (done_at_end _ _ _ _ _ last all.0 (c.in-Ok-eq0.ensures.read.ended none).1)
-
-pub returns-in-Ok-eq0-clause-refused : goal.returns-in-Ok-eq0-clause-refused
-returns-in-Ok-eq0-clause-refused g c = λ is.
-    let more = more_step _ _ _ _ _ _ c.in-More.ensures.after c.loop-source.invariant.so_far in
-    let none : c.in-Ok-eq0.field-0 ≡ 0 = search rules in
-    let last = so_far_end _ _ _ _ _ _ _ _ more c.in-Ok-eq0.ensures.read none in
-    let all = c.finish.ensures.refused is in
-    refused_at _ _ _ _ _ _ _ all.0 all.1 (λ _. (c.in-Ok-eq0.ensures.read.ended none).1) last (item_written _ (fault all.0) (fault_text all.0) _ refl all.2)
-
-pub returns-in-Ok-eq0-clause-broken : goal.returns-in-Ok-eq0-clause-broken
-returns-in-Ok-eq0-clause-broken g c = λ is.
-    let more = more_step _ _ _ _ _ _ c.in-More.ensures.after c.loop-source.invariant.so_far in
-    let none : c.in-Ok-eq0.field-0 ≡ 0 = search rules in
-    let last = so_far_end _ _ _ _ _ _ _ _ more c.in-Ok-eq0.ensures.read none in
-    let all = c.finish.ensures.broken is in
-    broken_at_end _ _ _ _ _ _ all.0 all.1 (c.in-Ok-eq0.ensures.read.ended none).1 last (item_broken _ (fault all.0) (fault_text all.0) _ refl all.2)
+    let whole = (c.in-Ok-eq0.ensures.read.ended none).1 in
+    ends_by _ _ _ _ _
+    (λ is. let all = c.finish.ensures.done is in rw all.1 (done_at_end _ _ _ _ _ last all.0 whole))
+    (λ is. let all = c.finish.ensures.refused is in refused_at _ _ _ _ _ _ _ all.0 all.1 (λ _. whole) last (item_written _ (fault all.0) (fault_text all.0) _ refl all.2))
+    (λ is. let all = c.finish.ensures.broken is in broken_at_end _ _ _ _ _ _ all.0 all.1 whole last (item_broken _ (fault all.0) (fault_text all.0) _ refl all.2))
+    c.finish.ensures.either
 
 pub loop-source-preserved-in-Ok-ask : goal.loop-source-preserved-in-Ok-ask
 loop-source-preserved-in-Ok-ask g c =
@@ -67,8 +55,8 @@ loop-source-preserved-in-Ok-ask g c =
       keeper_counts = i.keeper_counts;
     }
 
-pub returns-in-Err-clause-unread : goal.returns-in-Err-clause-unread
-returns-in-Err-clause-unread g c = λ is.
+pub returns-in-Err-clause-ends : goal.returns-in-Err-clause-ends
+returns-in-Err-clause-ends g c =
     rw (c.in-Err.ensures.given_stays, c.in-Err.ensures.left_stays) (unread_at _ _ _ _ _ c.loop-source.invariant.so_far (c.in-More.ensures.item c.loop-source.invariant.no_fault))
 
 pub loop-source-preserved-in-Ok-send : goal.loop-source-preserved-in-Ok-send
@@ -91,19 +79,19 @@ loop-source-preserved-in-Ok-send g c =
       keeper_counts = i.keeper_counts;
     }
 
-pub returns-in-Err-send-clause-broken : goal.returns-in-Err-send-clause-broken
-returns-in-Err-send-clause-broken g c = λ is.
+pub returns-in-Err-send-clause-ends : goal.returns-in-Err-send-clause-ends
+returns-in-Err-send-clause-ends g c =
     let i = c.loop-source.invariant in
     let text = rw c.continue_text.ensures at c.in-Err-send.ensures.prefix in
     broken_at _ _ _ _ _ _ continue (c.in-Continue.ensures.item i.no_fault) i.so_far (item_broken _ continue continue_text _ refl text)
 
-pub returns-in-Err-serve-clause-broken : goal.returns-in-Err-serve-clause-broken
-returns-in-Err-serve-clause-broken g c = λ is.
+pub returns-in-Err-serve-clause-ends : goal.returns-in-Err-serve-clause-ends
+returns-in-Err-serve-clause-ends g c =
     let i = c.loop-source.invariant in
     broken_step _ _ _ _ _ c.loop-source.messages c.next.new.self c.in-Request.request c.in-Request.ensures.after (c.in-Request.ensures.item i.no_fault) i.so_far c.in-Err-serve.ensures.broken
 
-pub returns-then-request-clause-done : goal.returns-then-request-clause-done
-returns-then-request-clause-done g c = λ is.
+pub returns-then-request-clause-ends : goal.returns-then-request-clause-ends
+returns-then-request-clause-ends g c =
     let i = c.loop-source.invariant in
     let after = c.in-Request.ensures.after in
     let asked = ap (λ (s : Stream). request_in s.last) after in
@@ -141,13 +129,13 @@ loop-source-preserved g c =
       keeper_counts = omega (arith, i.keeper_counts, c.in-Ok-serve.ensures.keeper_counts);
     }
 
-pub returns-in-Fault-clause-refused : goal.returns-in-Fault-clause-refused
-returns-in-Fault-clause-refused g c = λ is.
+pub returns-in-Fault-clause-ends : goal.returns-in-Fault-clause-ends
+returns-in-Fault-clause-ends g c =
     let i = c.loop-source.invariant in
+    let f = c.in-Fault.fault in
     let last = c.in-Fault.ensures.items i.no_fault [] false in
-    refused_at _ _ _ _ _ _ false c.in-Fault.fault last (λ e. absurd (cc)) i.so_far (item_written _ (fault c.in-Fault.fault) (fault_text c.in-Fault.fault) _ refl (c.refuse.ensures.refused is))
-
-pub returns-in-Fault-clause-broken : goal.returns-in-Fault-clause-broken
-returns-in-Fault-clause-broken g c = λ is.
-    let i = c.loop-source.invariant in
-    broken_at _ _ _ _ _ _ (fault c.in-Fault.fault) (c.in-Fault.ensures.item i.no_fault) i.so_far (item_broken _ (fault c.in-Fault.fault) (fault_text c.in-Fault.fault) _ refl (c.refuse.ensures.broken is).0)
+    ends_by _ _ _ _ _
+    (λ is. absurd (elim c.refuse.ensures.either [ inl e ↦ cc | inr e ↦ cc ]))
+    (λ is. refused_at _ _ _ _ _ _ false f last (λ e. absurd (cc)) i.so_far (item_written _ (fault f) (fault_text f) _ refl (c.refuse.ensures.refused is)))
+    (λ is. broken_at _ _ _ _ _ _ (fault f) (c.in-Fault.ensures.item i.no_fault) i.so_far (item_broken _ (fault f) (fault_text f) _ refl (c.refuse.ensures.broken is).0))
+    (inr c.refuse.ensures.either)
