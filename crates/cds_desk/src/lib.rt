@@ -29,4 +29,10 @@ pub use serving::Ended;
 pub use top::{DAMAGED, KEEPER_FAILED, NO_COMMAND, NO_MEMORY, SINK_FAILED, SOURCE_FAILED, run};
 
 #[cfg(test)]
+mod method_tests;
+#[cfg(test)]
+mod session_tests;
+#[cfg(test)]
+mod test_devices;
+#[cfg(test)]
 mod tests;
