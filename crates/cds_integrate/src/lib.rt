@@ -4,6 +4,7 @@
 #![tactic(auto)]
 
 mod found;
+mod laws;
 mod lines;
 mod measures;
 mod naming;
@@ -12,6 +13,7 @@ mod row_part;
 mod rows;
 mod shapes;
 
+pub use laws::{areas_are_conserved, areas_of_peaks_are_conserved};
 pub use row_part::{PeakList, RowPart};
 pub use rows::row;
 
