@@ -117,14 +117,14 @@ wide-row signal events at (cluster ∷ clusters) trace from =
     (wide-parts signal cluster.start cluster.end (shapes_of signal events cluster) row) (wide-row signal events cluster.end clusters trace from.1)
 
 -- the areas of peaks between two samples are those of the found parts there
-peaks-same : (signal : Signal) (method : Method) (naming : List (Option ℕ)) (place a b : ℕ) (found : List Found) (peaks : List Peak) →
-    ArePeaks signal method naming place found peaks → All IsWide (map part_of found) →
+peaks-same : (signal : Signal) (method : Method) (naming : List (Option ℕ)) (number a b : ℕ) (found : List Found) (peaks : List Peak) →
+    ArePeaks signal method naming number found peaks → All IsWide (map part_of found) →
     AreSame (map area_fraction (filter (lies_within a b) (map part_of found))) (map peak_fraction (filter (peak_lies_within a b) peaks))
-peaks-same signal method naming place a b [] [] are wide = tt
-peaks-same signal method naming place a b [] (peak ∷ peaks) are wide = absurd are
-peaks-same signal method naming place a b (one ∷ found) [] are wide = absurd are
-peaks-same signal method naming place a b (one ∷ found) (peak ∷ peaks) are wide =
-    let rest = peaks-same signal method naming (suc place) a b found peaks are.1 (All-tail IsWide one.part (map part_of found) wide) in
+peaks-same signal method naming number a b [] [] are wide = tt
+peaks-same signal method naming number a b [] (peak ∷ peaks) are wide = absurd are
+peaks-same signal method naming number a b (one ∷ found) [] are wide = absurd are
+peaks-same signal method naming number a b (one ∷ found) (peak ∷ peaks) are wide =
+    let rest = peaks-same signal method naming (suc number) a b found peaks are.1 (All-tail IsWide one.part (map part_of found) wide) in
     let same : peak_lies_within a b peak ≡ lies_within a b one.part = rw (are.0.start, are.0.end) refl in
     elim (cases_Bool (lies_within a b one.part)) [
       | inl is ↦
@@ -136,14 +136,14 @@ peaks-same signal method naming place a b (one ∷ found) (peak ∷ peaks) are w
 
 -- so where none of a row's parts there is rejected, both are together the same
 row-summed : (signal : Signal) (method : Method) (manual : List Event) (naming : List (Option ℕ)) (peaks : List Peak) (a b : ℕ) → IsTrace signal →
-    ArePeaks signal method naming 0 (found_of signal method manual) peaks → IsConserved signal (parts_of signal method manual) a b →
+    ArePeaks signal method naming 1 (found_of signal method manual) peaks → IsConserved signal (parts_of signal method manual) a b →
     IsSummed signal method (parts_of signal method manual) peaks a b
 row-summed signal method manual naming peaks a b trace are whole kept =
     let found : List Found = found_of signal method manual in
     let parts : List Measured = parts_of signal method manual in
     let those = found-parts signal method (events_of method manual) (row_clusters signal method manual) in
     let wide = wide-row signal (events_of method manual) 0 (row_clusters signal method manual) trace (row-clusters signal method manual trace) in
-    let same = peaks-same signal method naming 0 a b found peaks are (subst (All IsWide) (sym those) (All-filter (is_kept signal method) IsWide parts wide)) in
+    let same = peaks-same signal method naming 1 a b found peaks are (subst (All IsWide) (sym those) (All-filter (is_kept signal method) IsWide parts wide)) in
     let within : filter (lies_within a b) (map part_of found) ≡ filter (lies_within a b) parts =
     ap (filter (lies_within a b)) those ∙ filter-kept (lies_within a b) (is_rejected signal method) parts kept in
     let areas = subst (λ (ps : List Measured). AreSame (map area_fraction ps) (map peak_fraction (filter (peak_lies_within a b) peaks))) within same in
