@@ -1,5 +1,5 @@
 -- Conservation in a row: between two nodes of a cluster lie no other cluster's parts.
-use Rattle.std.proofs.Common.{◌≡◌, ℕ, zero, suc, ◌<◌, ◌≤◌, List, [], ◌∷◌, ◌++◌, map, length, All, refl, sym, subst, ◌∙◌, append-nil, arith}
+use Rattle.std.proofs.Common.{◌≡◌, ℕ, zero, suc, ◌<◌, ◌≤◌, List, [], ◌∷◌, map, length, All, refl, sym, subst, ◌∙◌, append-nil, arith}
 use Rattle.std.specs.Prelude.{slice_index_or}
 use Rattle.std.specs.List.{filter, flat_map}
 use Rattle.std.proofs.lemmas.List.{length-map}
@@ -15,13 +15,11 @@ use Rattle.cds_detect.proofs.StandLaws.{stand-raw_peaks_of}
 use Rattle.cds_events.specs.Arrangement.{gap_of}
 use Rattle.cds_events.specs.Standing.{IsCluster, ClustersFrom}
 use Rattle.cds_events.proofs.ClusterLaws.{clusters_of-stand}
-use Rattle.cds_baseline.specs.Cluster.{cluster_nodes}
 use Rattle.cds_integrate.specs.declared.shapes.Shape.{Shape}
 use Rattle.cds_integrate.specs.declared.measures.Measured.{Measured}
-use Rattle.cds_integrate.specs.Lines.{chord}
 use Rattle.cds_integrate.specs.Shapes.{is_covered, nodes_of, shapes_of}
 use Rattle.cds_integrate.specs.Measures.{measure, measured}
-use Rattle.cds_integrate.specs.Row.{events_of, row_clusters, parts_in, parts_of}
+use Rattle.cds_integrate.specs.Row.{events_of, row_clusters, parts_in}
 use Rattle.cds_integrate.specs.Sums.{area_fraction, lies_within, AreWhole, IsConserved, EachTwo, Conserves}
 use Rattle.cds_integrate.specs.Standing.{InRow}
 use Rattle.cds_integrate.proofs.PartLaws.{IsClear}

@@ -1,40 +1,35 @@
 -- The areas of a row's peaks between two samples are those of its parts there, where none of these is rejected.
-use Rattle.std.proofs.Common.{◌≡◌, ℕ, suc, ◌*◌, ◌<◌, Bool, true, false, not, List, [], ◌∷◌, ◌++◌, map, All, Option, Some, None, ℤ, pos, ◌*ℤ◌, inl, inr, refl, sym, ap, subst, ◌∙◌, arith}
+use Rattle.std.proofs.Common.{◌≡◌, ℕ, suc, ◌*◌, ◌<◌, Bool, true, false, not, List, [], ◌∷◌, map, Option, Some, None, ℤ, pos, ◌*ℤ◌, inl, inr, refl, sym, ap, subst, ◌∙◌, arith}
 use Rattle.std.specs.List.{filter, list_any, flat_map}
 use Rattle.std.proofs.lemmas.Bool.{cases_Bool, or_parts}
 use Rattle.std.proofs.lemmas.List.{map-append}
-use Rattle.std.proofs.lemmas.List.Elements.{filter-append, All-nil, All-cons, All-head, All-tail, All-append, All-filter}
+use Rattle.std.proofs.lemmas.List.Elements.{filter-append}
 use Rattle.cds_base.specs.declared.event.Event.{Event}
 use Rattle.cds_base.specs.declared.peak.Peak.{Peak}
 use Rattle.cds_base.specs.declared.cluster.Cluster.{Cluster}
 use Rattle.cds_rules.specs.declared.method.Method.{Method}
 use Rattle.cds_trace.specs.Signal.{Signal, IsTrace}
 use Rattle.cds_trace.specs.Heights.{span}
-use Rattle.cds_events.specs.Standing.{ClustersFrom}
-use Rattle.cds_integrate.specs.declared.shapes.Shape.{Shape}
 use Rattle.cds_integrate.specs.declared.measures.Measured.{Measured}
 use Rattle.cds_integrate.specs.declared.found.Found.{Found}
 use Rattle.cds_integrate.specs.declared.row_part.Answer.{Answer}
 use Rattle.cds_integrate.specs.declared.row_part.Answer.TheVariants as variant
 use Rattle.cds_integrate.specs.Lines.{chord}
-use Rattle.cds_integrate.specs.Shapes.{shapes_of}
-use Rattle.cds_integrate.specs.Measures.{measure, measured, is_rejected}
+use Rattle.cds_integrate.specs.Measures.{is_rejected}
 use Rattle.cds_integrate.specs.Peaks.{with_before, kept_of, ArePeaks}
 use Rattle.cds_integrate.specs.Row.{events_of, row_clusters, parts_in, parts_of, found_in, found_of, IsRow}
 use Rattle.cds_integrate.specs.Sums.{AreOver, area_fraction, peak_fraction, lies_within, peak_lies_within, IsConserved, IsSummed, Sums}
-use Rattle.cds_integrate.specs.Standing.{InRow}
 use Rattle.cds_integrate.proofs.NumberLaws.{share-same}
 use Rattle.cds_integrate.proofs.NodeLaws.{each-any}
-use Rattle.cds_integrate.proofs.FoundLaws.{cluster-anywhere, kept-yes, kept-no}
-use Rattle.cds_integrate.proofs.TangentLaws.{cluster-row}
-use Rattle.cds_integrate.proofs.ConservationLaws.{two-more, row-clusters, conserves}
+use Rattle.cds_integrate.proofs.FoundLaws.{kept-yes, kept-no}
+use Rattle.cds_integrate.proofs.ConservationLaws.{two-more, conserves}
 
--- fractions of a list, one by one the same numbers as those of another, whose divisors are above 0
+-- fractions with divisors above 0, one by one the same numbers as those of another list
 abbrev AreSame : List (ℤ × ℕ) → List (ℤ × ℕ) → Type 0
 AreSame [] [] = Unit {0}
 AreSame [] (y ∷ ys) = ⊥
 AreSame (x ∷ xs) [] = ⊥
-AreSame (x ∷ xs) (y ∷ ys) = (0 < x.1) × (y.0 *ℤ pos x.1 ≡ x.0 *ℤ pos y.1) × AreSame xs ys
+AreSame (x ∷ xs) (y ∷ ys) = (0 < y.1) × (y.0 *ℤ pos x.1 ≡ x.0 *ℤ pos y.1) × AreSame xs ys
 
 -- they are together the same
 over-same : (den : ℕ) (shares : List ℤ) (xs ys : List (ℤ × ℕ)) → AreOver den shares xs → AreSame xs ys → AreOver den shares ys
@@ -44,7 +39,7 @@ over-same den [] (x ∷ xs) ys over same = absurd over
 over-same den (share ∷ shares) [] ys over same = absurd over
 over-same den (share ∷ shares) (x ∷ xs) [] over same = absurd same
 over-same den (share ∷ shares) (x ∷ xs) (y ∷ ys) over same =
-    (share-same share x.0 y.0 y.1 x.1 den same.0 over.0 same.1, over-same den shares xs ys over.1 same.2)
+    (same.0, share-same share x.0 y.0 y.1 x.1 den over.0 over.1 same.1, over-same den shares xs ys over.2 same.2)
 
 -- one item of a list that is kept, and one that isn't
 filter-yes : {X : Type 0} (test : X → Bool) (x : X) (xs : List X) → test x ≡ true → filter test (x ∷ xs) ≡ x ∷ filter test xs
@@ -99,55 +94,38 @@ found-parts signal method events (cluster ∷ clusters) =
     map-append part_of (found_in signal method events cluster) (flat_map (found_in signal method events) clusters)
     ∙ (rw (here, rest) (sym (filter-append (is_kept signal method) (parts_in signal events cluster) (flat_map (parts_in signal events) clusters))))
 
--- the line of a part has a span
-abbrev IsWide : Measured → Type 0
-IsWide part = 0 < 2 * span part.shape.line
-
-wide-parts : (signal : Signal) (start end : ℕ) (shapes : List Shape) → InRow signal start shapes end → All IsWide (measured signal shapes)
-wide-parts signal start end [] row = All-nil IsWide
-wide-parts signal start end (shape ∷ later) row =
-    All-cons IsWide (measure signal shape later) (measured signal later) (omega (arith, row.1.from, row.1.order, row.1.to)) (wide-parts signal shape.reach end later row.3)
-
-wide-row : (signal : Signal) (events : List Event) (at : ℕ) (clusters : List Cluster) → IsTrace signal → ClustersFrom signal at clusters →
-    All IsWide (flat_map (parts_in signal events) clusters)
-wide-row signal events at [] trace from = All-nil IsWide
-wide-row signal events at (cluster ∷ clusters) trace from =
-    let row = cluster-row signal events cluster trace (cluster-anywhere signal at cluster from.0) in
-    All-append IsWide (parts_in signal events cluster) (flat_map (parts_in signal events) clusters)
-    (wide-parts signal cluster.start cluster.end (shapes_of signal events cluster) row) (wide-row signal events cluster.end clusters trace from.1)
-
 -- the areas of peaks between two samples are those of the found parts there
 peaks-same : (signal : Signal) (method : Method) (naming : List (Option ℕ)) (number a b : ℕ) (found : List Found) (peaks : List Peak) →
-    ArePeaks signal method naming number found peaks → All IsWide (map part_of found) →
+    ArePeaks signal method naming number found peaks →
     AreSame (map area_fraction (filter (lies_within a b) (map part_of found))) (map peak_fraction (filter (peak_lies_within a b) peaks))
-peaks-same signal method naming number a b [] [] are wide = tt
-peaks-same signal method naming number a b [] (peak ∷ peaks) are wide = absurd are
-peaks-same signal method naming number a b (one ∷ found) [] are wide = absurd are
-peaks-same signal method naming number a b (one ∷ found) (peak ∷ peaks) are wide =
-    let rest = peaks-same signal method naming (suc number) a b found peaks are.1 (All-tail IsWide one.part (map part_of found) wide) in
+peaks-same signal method naming number a b [] [] are = tt
+peaks-same signal method naming number a b [] (peak ∷ peaks) are = absurd are
+peaks-same signal method naming number a b (one ∷ found) [] are = absurd are
+peaks-same signal method naming number a b (one ∷ found) (peak ∷ peaks) are =
+    let rest = peaks-same signal method naming (suc number) a b found peaks are.1 in
     let same : peak_lies_within a b peak ≡ lies_within a b one.part = rw (are.0.start, are.0.end) refl in
     elim (cases_Bool (lies_within a b one.part)) [
       | inl is ↦
           rw (filter-yes (lies_within a b) one.part (map part_of found) is, filter-yes (peak_lies_within a b) peak peaks (same ∙ is))
-          (All-head IsWide one.part (map part_of found) wide, are.0.area, rest)
+          (omega (arith, peak.area.positive), are.0.area, rest)
       | inr other ↦
           rw (filter-no (lies_within a b) one.part (map part_of found) other, filter-no (peak_lies_within a b) peak peaks (same ∙ other)) rest
     ]
 
 -- so where none of a row's parts there is rejected, both are together the same
-row-summed : (signal : Signal) (method : Method) (manual : List Event) (naming : List (Option ℕ)) (peaks : List Peak) (a b : ℕ) → IsTrace signal →
+row-summed : (signal : Signal) (method : Method) (manual : List Event) (naming : List (Option ℕ)) (peaks : List Peak) (a b : ℕ) →
     ArePeaks signal method naming 1 (found_of signal method manual) peaks → IsConserved signal (parts_of signal method manual) a b →
     IsSummed signal method (parts_of signal method manual) peaks a b
-row-summed signal method manual naming peaks a b trace are whole kept =
+row-summed signal method manual naming peaks a b are whole kept =
     let found : List Found = found_of signal method manual in
     let parts : List Measured = parts_of signal method manual in
     let those = found-parts signal method (events_of method manual) (row_clusters signal method manual) in
-    let wide = wide-row signal (events_of method manual) 0 (row_clusters signal method manual) trace (row-clusters signal method manual trace) in
-    let same = peaks-same signal method naming 1 a b found peaks are (subst (All IsWide) (sym those) (All-filter (is_kept signal method) IsWide parts wide)) in
+    let same = peaks-same signal method naming 1 a b found peaks are in
     let within : filter (lies_within a b) (map part_of found) ≡ filter (lies_within a b) parts =
     ap (filter (lies_within a b)) those ∙ filter-kept (lies_within a b) (is_rejected signal method) parts kept in
     let areas = subst (λ (ps : List Measured). AreSame (map area_fraction ps) (map peak_fraction (filter (peak_lies_within a b) peaks))) within same in
     record {
+      some = whole.some;
       shares = whole.shares;
       each = over-same (2 * span (chord signal a b)) whole.shares (map area_fraction (filter (lies_within a b) parts)) (map peak_fraction (filter (peak_lies_within a b) peaks)) whole.each areas;
       sum = whole.sum;
@@ -159,6 +137,6 @@ sums signal method manual (variant.Peaks peaks) trace is =
     λ k d below.
     let parts : List Measured = parts_of signal method manual in
     two-more (IsConserved signal parts) (IsSummed signal method parts peaks) (λ n. Unit {0}) _
-    (λ a b _ _ whole. row-summed signal method manual is.1.naming peaks a b trace is.1.peaks_are whole)
+    (λ a b _ _ whole. row-summed signal method manual is.1.naming peaks a b is.1.peaks_are whole)
     (each-any _) (conserves signal method manual trace k d below)
 sums signal method manual (variant.TooMany number) trace is = tt

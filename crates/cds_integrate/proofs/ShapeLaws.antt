@@ -1,5 +1,5 @@
 -- How the parts of a cluster stand on their lines.
-use Rattle.std.proofs.Common.{◌≡◌, ℕ, suc, ◌+◌, ◌-◌, ◌*◌, ◌<◌, ◌≤◌, inl, inr, Bool, true, false, not, ◌&&◌, List, [], ◌∷◌, map, length, All, ℤ, pos, negsuc, ◌*ℤ◌, ◌≤ℤ◌, refl, sym, arith}
+use Rattle.std.proofs.Common.{◌≡◌, ℕ, suc, ◌+◌, ◌-◌, ◌*◌, ◌<◌, ◌≤◌, inl, inr, Bool, true, false, not, ◌&&◌, List, [], ◌∷◌, map, length, All, pos, ◌*ℤ◌, ◌≤ℤ◌, refl, sym, arith}
 use Rattle.std.proofs.lemmas.List.{length-map}
 use Rattle.std.specs.Prelude.{slice_index_or, nat_lt, ◌==◌}
 use Rattle.std.specs.List.{list_any}

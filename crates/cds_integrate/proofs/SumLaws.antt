@@ -11,7 +11,7 @@ use Rattle.cds_base.specs.declared.event.Event.{Event}
 use Rattle.cds_base.specs.declared.cluster.Part.{Part}
 use Rattle.cds_base.specs.declared.cluster.Cluster.{Cluster}
 use Rattle.cds_base.specs.Tiles.{Tiles}
-use Rattle.cds_trace.specs.Signal.{Signal, IsTrace}
+use Rattle.cds_trace.specs.Signal.{Signal}
 use Rattle.cds_trace.specs.Heights.{span}
 use Rattle.cds_area.specs.Area.{area_by_double_span}
 use Rattle.cds_area.proofs.AreaLaws.{area-split}
@@ -133,6 +133,7 @@ walk-rider signal a b start shape later rider is left right rest =
     let part : Measured = measure signal shape later in
     let width : ℕ = b - a in
     let t : ℤ = twice_whole_area signal shape.line in
+    let wide : 0 < 2 * span shape.line = omega (arith, is.from, is.order, is.to) in
     let kept = filter-in signal a b shape later (within-yes a b part left (omega (arith, is.reaches, right))) in
     let shares : List ℤ = map (share_of signal width) (filter (lies_within a b) (measured signal later)) in
     let share : share_of signal width part ≡ t *ℤ pos width = rw rider refl in
@@ -144,7 +145,7 @@ walk-rider signal a b start shape later rider is left right rest =
     ≡ (t +ℤ twice_areas signal (riders later)) *ℤ pos width +ℤ areas =
     rw (twice-one signal shape later rider, reach-on start shape later rider) refl in
     record {
-      each = rw kept (one, rest.each);
+      each = rw kept (wide, one, rest.each);
       sum = rw kept (sum-from (pos 0 +ℤ share_of signal width part) shares ∙
           (rider-sum (share_of signal width part) t (fold ◌+ℤ◌ (pos 0) shares) areas (twice_areas signal (riders later)) width share rest.sum ∙ sym target));
     }
@@ -156,6 +157,7 @@ walk-plain : (signal : Signal) (a b start end : ℕ) (shape : Shape) (later : Li
 walk-plain signal a b start end shape later other line is at left whole right far row rest =
     let part : Measured = measure signal shape later in
     let width : ℕ = b - a in
+    let wide : 0 < 2 * span shape.line = omega (arith, is.from, is.order, is.to) in
     let kept = filter-in signal a b shape later (within-yes a b part left (omega (arith, is.reaches, right))) in
     let shares : List ℤ = map (share_of signal width) (filter (lies_within a b) (measured signal later)) in
     let same : share_of signal width part ≡ area_of signal shape later = rw other refl in
@@ -173,7 +175,7 @@ walk-plain signal a b start end shape later other line is at left whole right fa
     ≡ pos 0 *ℤ pos width +ℤ area_by_double_span signal (chord signal a b) shape.start b =
     rw (twice-end signal shape later other, reach-end start shape later other, at) refl in
     record {
-      each = rw kept (one, rest.each);
+      each = rw kept (wide, one, rest.each);
       sum = rw kept (sum-from (pos 0 +ℤ share_of signal width part) shares ∙
           (plain-sum (share_of signal width part) gross taken (fold ◌+ℤ◌ (pos 0) shares) behind (area_by_double_span signal (chord signal a b) shape.start b) width share rest.sum split ∙ sym target));
     }
@@ -259,6 +261,7 @@ approach signal events nodes a b end lines first among order inside start (part 
           let target : twice_areas signal (riders shapes) *ℤ pos (b - a) +ℤ area_by_double_span signal (chord signal a b) (from_reach start shapes) b ≡ area_by_double_span signal (chord signal a b) a b =
           rw (free, here) (omega (arith, ints)) in
           record {
+            some = omega (arith, order);
             shares = map (share_of signal (b - a)) (filter (lies_within a b) (measured signal shapes));
             each = walked.each;
             sum = walked.sum ∙ target;

@@ -1,6 +1,6 @@
 -- Conservation: what the areas over one baseline line are together, those of the parts and those of the peaks. This
 -- project's own rule.
-use Rattle.std.specs.Prelude.{◌≡◌, ℕ, ◌*◌, List, [], ◌∷◌, ◌&&◌, Bool, false, All, nat_le, map, ℤ, pos, ◌+ℤ◌, ◌*ℤ◌}
+use Rattle.std.specs.Prelude.{◌≡◌, ℕ, ◌*◌, ◌<◌, List, [], ◌∷◌, ◌&&◌, Bool, false, All, nat_le, map, ℤ, pos, ◌+ℤ◌, ◌*ℤ◌}
 use Rattle.std.specs.List.{fold, filter, list_any}
 use Rattle.cds_base.specs.declared.event.Event.{Event}
 use Rattle.cds_base.specs.declared.peak.Peak.{Peak}
@@ -16,16 +16,17 @@ use Rattle.cds_integrate.specs.Shapes.{nodes_of}
 use Rattle.cds_integrate.specs.Measures.{is_rejected}
 use Rattle.cds_integrate.specs.Row.{events_of, row_clusters, parts_of}
 
--- these whole numbers, over the divisor den, are the fractions one by one
+-- these whole numbers, over the divisor den, are the fractions one by one; the divisor of each is above 0
 abbrev pub AreOver : ℕ → List ℤ → List (ℤ × ℕ) → Type 0
 AreOver den [] [] = Unit {0}
 AreOver den [] (fraction ∷ fractions) = ⊥
 AreOver den (share ∷ shares) [] = ⊥
 AreOver den (share ∷ shares) (fraction ∷ fractions) =
-    (share *ℤ pos fraction.1 ≡ fraction.0 *ℤ pos den) × AreOver den shares fractions
+    (0 < fraction.1) × (share *ℤ pos fraction.1 ≡ fraction.0 *ℤ pos den) × AreOver den shares fractions
 
--- the fractions are together num / den: over that divisor they are whole numbers, whose sum is num
+-- the fractions are together num / den: over that divisor, which is above 0, they are whole numbers, whose sum is num
 pub record AreTogether (fractions : List (ℤ × ℕ)) (num : ℤ) (den : ℕ) : Type 0 where
+  pub some : 0 < den
   pub shares : List ℤ
   pub each : AreOver den shares fractions
   pub sum : fold ◌+ℤ◌ (pos 0) shares ≡ num
