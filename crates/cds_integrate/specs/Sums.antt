@@ -49,22 +49,22 @@ lies_within a b part = nat_le a part.shape.start && nat_le part.shape.end b
 abbrev pub peak_lies_within : ℕ → ℕ → Peak → Bool
 peak_lies_within a b peak = nat_le a peak.start && nat_le peak.end b
 
--- the areas of the parts between two samples, rejected ones included, are together the area over the whole chord of the two
+-- the areas of the parts between two samples, riders and rejected ones included, are together the area over their whole chord
 abbrev pub IsConserved : Signal → List Measured → ℕ → ℕ → Type 0
 IsConserved signal parts a b = AreWhole signal a b (map area_fraction (filter (lies_within a b) parts))
 
--- where none of these parts is rejected, the areas of the peaks between the two are together the area over that chord
+-- where none of these parts is rejected, the areas of the peaks between the two samples are together the same
 abbrev pub IsSummed : Signal → Method → List Measured → List Peak → ℕ → ℕ → Type 0
 IsSummed signal method parts peaks a b =
     list_any (is_rejected signal method) (filter (lies_within a b) parts) ≡ false → AreWhole signal a b (map peak_fraction (filter (peak_lies_within a b) peaks))
 
--- P holds of each two samples in a row
+-- P holds of each two neighbours in a list of samples
 abbrev pub EachTwo : (ℕ → ℕ → Type 0) → List ℕ → Type 0
 EachTwo P [] = Unit {0}
 EachTwo P (a ∷ []) = Unit {0}
 EachTwo P (a ∷ b ∷ samples) = P a b × EachTwo P (b ∷ samples)
 
--- P holds of the ends of each baseline line of a row: of each two nodes in a row, in each of its clusters
+-- P holds of the ends of each baseline line of a row: of each two neighbouring nodes, in each of its clusters
 abbrev pub OverEachLine : Signal → Method → List Event → (ℕ → ℕ → Type 0) → Type 0
 OverEachLine signal method manual P = All (λ cluster. EachTwo P (nodes_of signal (events_of method manual) cluster)) (row_clusters signal method manual)
 
@@ -72,7 +72,7 @@ OverEachLine signal method manual P = All (λ cluster. EachTwo P (nodes_of signa
 abbrev pub Conserves : Signal → Method → List Event → Type 0
 Conserves signal method manual = OverEachLine signal method manual (IsConserved signal (parts_of signal method manual))
 
--- and so are those of its peaks, where no part over the line is rejected; a row with too many raw peaks has none
+-- and those of its peaks are, where no part over the line is rejected; a row of too many raw peaks has no peaks
 abbrev pub Sums : Signal → Method → List Event → Answer → Type 0
 Sums signal method manual (variant.Peaks peaks) = OverEachLine signal method manual (IsSummed signal method (parts_of signal method manual) peaks)
 Sums signal method manual (variant.TooMany number) = Unit {0}

@@ -7,7 +7,7 @@ ghost use Rattle.cds_integrate.specs.declared.row_part.Answer.{Answer};
 ghost use Rattle.cds_integrate.specs.Row.{IsRow};
 ghost use Rattle.cds_integrate.specs.Sums.{Conserves, Sums};
 
-/// Between each two nodes in a row of each cluster's baseline the exact areas of all parts of a row whose ranges lie
+/// Between each two neighbouring nodes of each cluster's baseline the exact areas of all parts of a row whose ranges lie
 /// there, riders and rejected ones included, are together the area over the whole line from the one node to the other.
 pub fn areas_are_conserved()
     ensures { (signal : Signal) (method : Method) (manual : List Event) → IsTrace signal → Conserves signal method manual }

@@ -118,9 +118,9 @@ fn peaks_from<L: Ledger>(
 /// exact area and height, its crossings at half height and at one twentieth of it, and the heights for its peak to valley
 /// ratio. Components are numbered from 1; they name the peaks by the one naming that no wanted pair blocks.
 ///
-/// Over each baseline line between two nodes in a row the exact areas of all parts whose ranges lie there, riders and
+/// Over each baseline line between two neighbouring nodes the exact areas of all parts whose ranges lie there, riders and
 /// rejected ones included, are together the area over the whole line. So where none of them is rejected, the areas of the
-/// row's peaks there are.
+/// peaks there are together the same.
 ///
 /// `TooMany` comes exactly where there are more than 500 raw peaks. Want of memory is the one other answer. At least one
 /// step, since sample 0 is read first, and at most 32 for each sample of the trace. The rules are this project's own.
