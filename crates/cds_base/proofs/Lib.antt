@@ -1,3 +1,4 @@
 pub mod Reading
 pub mod ToldLaws
 pub mod Doors
+pub mod SearchLaws

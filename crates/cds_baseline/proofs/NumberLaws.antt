@@ -1,7 +1,7 @@
 -- Laws of tests of whole numbers up to a bound.
 use Rattle.std.proofs.Common.{◌≡◌, ℕ, zero, suc, ◌+◌, ◌<◌, Bool, true, false, inl, inr, refl, arith}
 use Rattle.std.proofs.lemmas.Bool.{and_parts, and_from, and_left, and_right, cases_eq}
-use Rattle.cds_baseline.specs.Numbers.{each_below, greatest}
+use Rattle.cds_baseline.specs.Numbers.{each_below}
 
 -- what passes for each number passes for one of them
 pub each_below-at : (test : ℕ → Bool) (n k : ℕ) → each_below test n ≡ true → k < n → test k ≡ true
@@ -26,14 +26,3 @@ each_below-fails test (suc n) k below fails =
       | inl same ↦ and_right (each_below test n) (test n) (rw same at fails)
       | inr other ↦ and_left (each_below test n) (test n) (each_below-fails test n k (omega arith) fails)
     ]
-
--- the next number, where it passes, is the greatest, and else leaves it
-pub greatest-yes : (test : ℕ → Bool) (n : ℕ) → test (n + 1) ≡ true → greatest test (n + 1) ≡ n + 1
-greatest-yes test n passes =
-    let e : n + 1 ≡ suc n = omega arith in
-    rw e (rw (rw e at passes) refl)
-
-pub greatest-no : (test : ℕ → Bool) (n : ℕ) → test (n + 1) ≡ false → greatest test (n + 1) ≡ greatest test n
-greatest-no test n fails =
-    let e : n + 1 ≡ suc n = omega arith in
-    rw e (rw (rw e at fails) refl)

@@ -4,11 +4,12 @@ use Rattle.std.specs.Prelude.{int_le}
 use Rattle.std.proofs.lemmas.Int.{ints}
 use Rattle.std.proofs.lemmas.Bool.{cases_Bool, cases_lt, cases_eq}
 use borrow.Author.Differences.{le-true, le-false}
+use Rattle.cds_base.proofs.SearchLaws.{greatest-here, greatest-skip}
 use Rattle.cds_trace.specs.Signal.{Signal, sample_at}
 use Rattle.cds_baseline.specs.declared.slopes.Slope.{Slope}
 use Rattle.cds_baseline.specs.Chord.{is_over}
 use Rattle.cds_baseline.specs.Tangent.{is_clear, tangent_sample}
-use Rattle.cds_baseline.proofs.NumberLaws.{each_below-from, each_below-fails, greatest-yes, greatest-no}
+use Rattle.cds_baseline.proofs.NumberLaws.{each_below-from, each_below-fails}
 use Rattle.cds_baseline.proofs.SlopeLaws.{slope-trans, over-from, over-not, flat-mul}
 
 -- the rise from sample v to sample k
@@ -52,7 +53,7 @@ least-start signal v least rise run =
       inside = omega arith;
       rise = rise;
       run = run;
-      value = rw (count, greatest-yes (λ n. is_clear signal v (v + n)) 0 clear) refl;
+      value = rw (count, greatest-here (λ n. is_clear signal v (v + n)) 0 clear) refl;
       each = λ k after before. let e : k ≡ v + 1 = omega arith in rw (e, rise, run) (omega (arith, ints));
     }
 
@@ -74,7 +75,7 @@ least-takes signal v j last least slope h rise run at_most =
       inside = omega arith;
       rise = rise;
       run = run;
-      value = rw (count, greatest-yes (λ n. is_clear signal v (v + n)) (j - v) clear) (omega arith);
+      value = rw (count, greatest-here (λ n. is_clear signal v (v + n)) (j - v) clear) (omega arith);
       each = λ k after inside. elim (cases_eq k (j + 1)) [
         | inl end ↦ rw (end, rise, run) (omega (arith, ints))
         | inr other ↦ each k after (omega arith)
@@ -99,7 +100,7 @@ least-keeps signal v j last least slope h rise run steeper =
       inside = omega (arith, h.inside);
       rise = h.rise;
       run = h.run;
-      value = rw (count, greatest-no (λ n. is_clear signal v (v + n)) (j - v) clear) h.value;
+      value = rw (count, greatest-skip (λ n. is_clear signal v (v + n)) (j - v) clear) h.value;
       each = λ k after inside. elim (cases_eq k (j + 1)) [
         | inl end ↦ rw (end) (omega (arith, ints, rw (rise, run) at above))
         | inr other ↦ h.each k after (omega arith)

@@ -1,7 +1,8 @@
 -- Where the tangent from a valley to the falling side of a peak ends.
 use Rattle.std.specs.Prelude.{ℕ, ◌+◌, ◌-◌, Bool}
+use Rattle.cds_base.specs.Search.{greatest}
 use Rattle.cds_trace.specs.Signal.{Signal}
-use Rattle.cds_baseline.specs.Numbers.{each_below, greatest}
+use Rattle.cds_baseline.specs.Numbers.{each_below}
 use Rattle.cds_baseline.specs.Chord.{is_over}
 
 -- whether no sample from v to j lies under the chord from v to j

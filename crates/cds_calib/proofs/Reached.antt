@@ -3,6 +3,8 @@ use Rattle.std.proofs.Common.{◌≡◌, ℕ, zero, suc, ◌+◌, ◌-◌, ◌*�
 use Rattle.std.proofs.Math.Nat.{mul-le-mul, mul-le-mul_right}
 use Rattle.std.proofs.lemmas.Bool.{lt-ltb, le-ltb, ltb-true, le-leb, lt-leb, cases_lt}
 use Rattle.std.proofs.lemmas.Bool.Decides.{nat_tests}
+use Rattle.cds_base.specs.Search.{greatest}
+use Rattle.cds_base.proofs.SearchLaws.{greatest-is}
 use Rattle.cds_base.specs.declared.peak.Missing.TheVariants.{TooFew, NotRising}
 use Rattle.cds_frac.specs.Fraction.{Fraction, lowest_terms}
 use Rattle.std.specs.Ordering.{ordering_index}
@@ -13,7 +15,7 @@ use Rattle.cds_calib.specs.declared.point.Point.{Point}
 use Rattle.cds_calib.specs.declared.determination.Spread.{Spread}
 use Rattle.cds_calib.specs.Points.{sum_x, sum_y, sum_xy}
 use Rattle.cds_calib.specs.Line.{differ, corrected_xx, corrected_yy, corrected_xy}
-use Rattle.cds_calib.specs.Determination.{explained, total, reaches, if_rising, greatest, IsDetermination}
+use Rattle.cds_calib.specs.Determination.{explained, total, reaches, if_rising, IsDetermination}
 use Rattle.cds_calib.specs.Spread.{spread_of}
 use Rattle.cds_calib.proofs.Squares.{gap}
 use Rattle.cds_calib.proofs.Spread.{schwarz}
@@ -123,18 +125,6 @@ IsDetermination-end points low above is near =
       reached = is.reached;
       greatest = λ k here. elim (cases_lt low k) [ inl lt ↦ absurd (let past = beyond points low k missed lt in omega arith) | inr ge ↦ ge ];
     }
-
--- the greatest number that passes is the one above which none does
-pub greatest-is : (test : ℕ → Bool) (n low : ℕ) → low ≤ n → test low ≡ true → ((k : ℕ) → low < k → k ≤ n → test k ≡ false) → greatest test n ≡ low
-unfolding greatest
-greatest-is test zero low le here above = omega arith
-greatest-is test (suc n) low le here above =
-    elim (cases_lt low (suc n)) [
-      | inl lt ↦ ap (λ b. cond b (suc n) (greatest test n)) (above (suc n) lt (omega arith)) ∙ greatest-is test n low (omega arith) here (λ k p q. above k p (omega arith))
-      | inr ge ↦
-          let same : low ≡ suc n = omega arith in
-          ap (λ b. cond b (suc n) (greatest test n)) (subst (λ k. test k ≡ true) same here) ∙ sym same
-    ]
 
 pub determination-end : (points : List Point) (low above : ℕ) → Between points low above → above - low ≤ 1 → low ≡ greatest (reaches points) 10000
 determination-end points low above is near =

@@ -1,6 +1,7 @@
 -- The coefficient of determination r^2 = (n Sxy - Sx Sy)^2 / ((n Sxx - Sx^2) (n Syy - Sy^2)) of the unweighted line
 -- with intercept, whatever the weight of the line that is used. It is compared as a product, and never divided.
-use Rattle.std.specs.Prelude.{ℕ, zero, suc, ◌*◌, ◌≤◌, nat_lt, nat_le, Bool, cond, if◌then◌else◌, List, Result, Ok, Err}
+use Rattle.std.specs.Prelude.{ℕ, ◌*◌, ◌≤◌, nat_lt, nat_le, Bool, if◌then◌else◌, List, Result, Ok, Err}
+use Rattle.cds_base.specs.Search.{greatest}
 use Rattle.cds_base.specs.declared.peak.Missing.{Missing}
 use Rattle.cds_base.specs.declared.peak.Missing.TheVariants.{TooFew, NotRising}
 use Rattle.cds_calib.specs.declared.point.Point.{Point}
@@ -25,11 +26,6 @@ if_rising points a = if differ points then (if nat_lt 0 (corrected_xy points) th
 -- whether r^2 is at least q / 10000
 abbrev pub at_least_of : List Point → ℕ → Result Bool Missing
 at_least_of points q = if_rising points (reaches points q)
-
--- the greatest of the numbers 0 to n that passes the test, 0 where none does
-unfoldable pub greatest : (ℕ → Bool) → ℕ → ℕ
-greatest test zero = zero
-greatest test (suc n) = cond (test (suc n)) (suc n) (greatest test n)
 
 -- the greatest q of 0 to 10000 such that r^2 is at least q / 10000
 abbrev pub determination_of : List Point → Result ℕ Missing

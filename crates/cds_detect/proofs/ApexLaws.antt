@@ -5,8 +5,8 @@ use Rattle.std.specs.List.{range_with_len, list_all}
 use Rattle.std.proofs.lemmas.Bool.{cases_eq, and_from, and_left, and_right}
 use Rattle.std.proofs.lemmas.Int.{ints}
 use Rattle.cds_trace.specs.Signal.{Signal, sample_at}
-use Rattle.cds_detect.specs.Least.{least}
-use Rattle.cds_detect.specs.Raw.{is_greatest, first_greatest}
+use Rattle.cds_base.specs.Search.{least}
+use Rattle.cds_trace.specs.Extremes.{is_greatest, first_greatest}
 use Rattle.cds_detect.proofs.LeastLaws.{least-skip, least-here}
 
 -- the number that passes while none before it does is the least

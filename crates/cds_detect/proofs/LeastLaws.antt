@@ -1,7 +1,7 @@
 -- How a search for the least number goes on, and within which bounds it ends.
 use Rattle.std.proofs.Common.{◌≡◌, ℕ, zero, suc, ◌+◌, ◌-◌, ◌<◌, ◌≤◌, Bool, true, false, cond, Some, refl, arith, unwrap_or}
 use Rattle.std.specs.List.{range_with_len, find}
-use Rattle.cds_detect.specs.Least.{least}
+use Rattle.cds_base.specs.Search.{least}
 
 -- a number that doesn't pass is passed over
 pub least-skip : (test : ℕ → Bool) (k n : ℕ) → k < n → test k ≡ false → least test k n ≡ least test (k + 1) n

@@ -5,7 +5,7 @@ use Rattle.cds_base.specs.declared.event.Event.{Event}
 use Rattle.cds_base.specs.declared.event.Event.TheVariants.{Inhibit, Slope}
 use Rattle.cds_trace.specs.Signal.{Signal}
 use Rattle.cds_detect.specs.Classes.{Settings, classes}
-use Rattle.cds_detect.specs.Least.{least}
+use Rattle.cds_base.specs.Search.{least}
 use Rattle.cds_detect.specs.Raw.{raw_peaks_of}
 
 abbrev by : List Event → Settings

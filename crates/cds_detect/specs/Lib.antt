@@ -1,4 +1,3 @@
-pub mod Least
 pub mod Slopes
 pub mod Bunches
 pub mod Classes

@@ -1,22 +1,14 @@
 -- The raw peaks of a trace. This project's own rule.
-use Rattle.std.specs.Prelude.{◌≡◌, ℕ, ◌+◌, ◌-◌, ◌*◌, ◌<◌, ◌≤◌, ◌&&◌, ◌==◌, Bool, List, [], ◌∷◌, map, length, int_le, nat_le, nat_lt, if◌then◌else◌}
-use Rattle.std.specs.List.{range_with_len, list_all, filter}
+use Rattle.std.specs.Prelude.{◌≡◌, ℕ, ◌-◌, ◌*◌, ◌<◌, ◌≤◌, ◌&&◌, ◌==◌, Bool, List, [], ◌∷◌, map, length, nat_le, nat_lt, if◌then◌else◌}
+use Rattle.std.specs.List.{filter}
 use Rattle.cds_base.specs.declared.peak.RawPeak.{RawPeak}
-use Rattle.cds_trace.specs.Signal.{Signal, sample_at}
+use Rattle.cds_trace.specs.Signal.{Signal}
+use Rattle.cds_trace.specs.Extremes.{first_greatest}
 use Rattle.cds_detect.specs.declared.raw.Raw.{Raw}
 use Rattle.cds_detect.specs.declared.raw.Raw.TheVariants as variant
 use Rattle.cds_detect.specs.declared.raw.TheConstants.{MOST_RAW_PEAKS}
-use Rattle.cds_detect.specs.Least.{least}
 use Rattle.cds_detect.specs.Classes.{Settings, class_count, classes}
 use Rattle.cds_detect.specs.Spans.{Span, spans}
-
--- no sample of the range from..to, its ends in it, is above sample i
-abbrev pub is_greatest : Signal → ℕ → ℕ → ℕ → Bool
-is_greatest signal from to i = list_all (λ k. int_le (sample_at signal k) (sample_at signal i)) (range_with_len from (to + 1 - from))
-
--- the first greatest sample of the range from..to
-abbrev pub first_greatest : Signal → ℕ → ℕ → ℕ
-first_greatest signal from to = least (is_greatest signal from to) from (to + 1)
 
 -- the last sample of a peak whose fall ends at this class: the first one of its bunch, or the trace's last one where the classes end
 abbrev pub end_sample : Signal → ℕ → ℕ → ℕ

@@ -1,6 +1,6 @@
 -- Where peaks lie in a list of classes. This project's own rule.
 use Rattle.std.specs.Prelude.{ℕ, zero, suc, ◌+◌, ◌-◌, ◌&&◌, ◌||◌, Bool, true, false, not, List, [], ◌∷◌, ◌++◌, length, slice_index_or, nat_lt, if◌then◌else◌}
-use Rattle.cds_detect.specs.Least.{least}
+use Rattle.cds_base.specs.Search.{least}
 use Rattle.cds_detect.specs.declared.class.Class.{Class}
 use Rattle.cds_detect.specs.declared.class.Class.TheVariants.{Inhibited, Up, Down, Flat}
 

@@ -1,6 +1,6 @@
 ghost use Rattle.std.specs.Prelude.{◌≡◌, ◌+◌, ◌<◌, ◌≤◌, length};
 ghost use Rattle.cds_trace.specs.Signal.{IsTrace};
-ghost use Rattle.cds_detect.specs.Raw.{first_greatest};
+ghost use Rattle.cds_trace.specs.Extremes.{first_greatest};
 
 use cds_base::Steps;
 use cds_trace::Trace;

@@ -10,7 +10,7 @@ use Rattle.std.proofs.lemmas.List.Elements.{All-nil, All-cons}
 use Rattle.cds_base.specs.declared.cluster.Part.{Part}
 use Rattle.cds_trace.specs.Signal.{Signal}
 use Rattle.cds_events.specs.declared.segments.Segment.{Segment}
-use Rattle.cds_events.specs.Extremes.{first_greatest}
+use Rattle.cds_trace.specs.Extremes.{first_greatest}
 use Rattle.cds_events.specs.Drops.{crosses, is_cut, front, back, cut_by, cut_each, cut_all}
 use Rattle.cds_events.specs.Row.{IsInside}
 use Rattle.cds_events.specs.Segments.{Covers, IsMark, top_within, cut_each_by}

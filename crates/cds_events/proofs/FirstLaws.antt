@@ -2,7 +2,7 @@
 use Rattle.std.proofs.Common.{◌≡◌, ℕ, zero, suc, ◌+◌, ◌-◌, ◌<◌, ◌≤◌, Bool, true, false, Option, Some, refl, arith, ap, sym, ◌∙◌, inl, inr, ◌⊎◌}
 use Rattle.std.specs.List.{range_with_len, find, list_all}
 use Rattle.std.proofs.lemmas.Bool.{cases_eq, cases_Bool, and_from, and_parts, both_ways, false_from_ne_true}
-use Rattle.cds_events.specs.Extremes.{first}
+use Rattle.cds_base.specs.Search.{least}
 
 -- the number that passes while none before it does is found
 find-is : (test : ℕ → Bool) (d k n i : ℕ) → i ≡ k + d → d < n → ((j : ℕ) → k ≤ j → j < i → test j ≡ false) → test i ≡ true → find test (range_with_len k n) ≡ Some i
@@ -15,8 +15,8 @@ find-is test (suc d) k (suc n) i e l fails passes =
     let before : test k ≡ false = fails k (omega arith) (omega arith) in
     rw before (find-is test d (k + 1) n i (omega arith) (omega arith) (λ j a b. fails j (omega arith) b) passes)
 
-pub first-is : (test : ℕ → Bool) (from to i : ℕ) → from ≤ i → i ≤ to → ((j : ℕ) → from ≤ j → j < i → test j ≡ false) → test i ≡ true → first test from to ≡ i
-unfolding first
+pub first-is : (test : ℕ → Bool) (from to i : ℕ) → from ≤ i → i ≤ to → ((j : ℕ) → from ≤ j → j < i → test j ≡ false) → test i ≡ true → least test from (to + 1) ≡ i
+unfolding least
 first-is test from to i low high fails passes =
     rw (find-is test (i - from) from (to + 1 - from) i (omega arith) (omega arith) fails passes) refl
 
@@ -113,15 +113,15 @@ pub record IsFirstBest (beats : ℕ → ℕ → Bool) (from to i : ℕ) : Type 0
 abbrev pub is_best : (ℕ → ℕ → Bool) → ℕ → ℕ → ℕ → Bool
 is_best beats from to i = list_all (beats i) (range_with_len from (to + 1 - from))
 
-pub first-best_is : (beats : ℕ → ℕ → Bool) (from to i : ℕ) → IsFirstBest beats from to i → first (is_best beats from to) from to ≡ i
+pub first-best_is : (beats : ℕ → ℕ → Bool) (from to i : ℕ) → IsFirstBest beats from to i → least (is_best beats from to) from (to + 1) ≡ i
 first-best_is beats from to i first_best =
     first-is (is_best beats from to) from to i first_best.low first_best.high
     (λ j l m. false_from_ne_true (is_best beats from to j) (λ all.
     both_ways (beats j i) (first_best.before j l m) (all-range_tells (beats j) from (to + 1 - from) i first_best.low (omega (arith, first_best.high)) all)))
     (all-range (beats i) from (to + 1 - from) (λ k l m. first_best.most k l (omega arith)))
 
-pub first-best : (beats : ℕ → ℕ → Bool) → IsOrder beats → (from to : ℕ) → from ≤ to → IsFirstBest beats from to (first (is_best beats from to) from to)
-unfolding first
+pub first-best : (beats : ℕ → ℕ → Bool) → IsOrder beats → (from to : ℕ) → from ≤ to → IsFirstBest beats from to (least (is_best beats from to) from (to + 1))
+unfolding least
 first-best beats order from to l =
     let some = best beats order from (to - from) in
     let all : is_best beats from to some.0 ≡ true = all-range (beats some.0) from (to + 1 - from) (λ k a b. some.3 k a (omega arith)) in

@@ -11,7 +11,7 @@ use Rattle.cds_base.specs.declared.cluster.Boundary.TheVariants.{Valley}
 use Rattle.cds_base.specs.declared.cluster.Part.{Part}
 use Rattle.cds_trace.specs.Signal.{Signal}
 use Rattle.cds_events.specs.declared.placed.Placed.{Placed}
-use Rattle.cds_events.specs.Extremes.{first_greatest}
+use Rattle.cds_trace.specs.Extremes.{first_greatest}
 use Rattle.cds_base.specs.Tiles.{Tiles}
 use Rattle.cds_events.specs.Parts.{valley, part_end, parts_from}
 use Rattle.cds_events.specs.Arrangement.{start_of, end_of}

@@ -6,7 +6,7 @@ use Rattle.std.proofs.lemmas.Int.{ints}
 use Rattle.std.proofs.lemmas.List.Elements.{All-nil, All-cons, All-head, All-tail}
 use Rattle.cds_trace.specs.Signal.{Signal, sample_at}
 use Rattle.cds_events.specs.declared.segments.Segment.{Segment}
-use Rattle.cds_events.specs.Extremes.{first_greatest}
+use Rattle.cds_trace.specs.Extremes.{first_greatest}
 use Rattle.cds_events.specs.Segments.{IsSegment, Covers, IsOutside, IsMark, higher, is_within, best_with, top_or, top_within}
 use Rattle.cds_events.proofs.TopLaws.{IsTop, first_greatest-is, first_greatest-top, top-later, top-earlier}
 

@@ -4,7 +4,7 @@ use Rattle.std.specs.Prelude.{int_le}
 use Rattle.std.proofs.lemmas.Bool.{cases_lt}
 use Rattle.std.proofs.lemmas.Int.{ints}
 use Rattle.cds_trace.specs.Signal.{Signal, sample_at}
-use Rattle.cds_events.specs.Extremes.{first, first_greatest, first_least}
+use Rattle.cds_trace.specs.Extremes.{first_greatest, first_least}
 use Rattle.cds_events.specs.Standing.{IsCrest}
 use Rattle.cds_events.proofs.FirstLaws.{IsOrder, IsFirstBest, first-best, first-best_is}
 

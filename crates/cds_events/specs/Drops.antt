@@ -6,7 +6,7 @@ use Rattle.cds_base.specs.declared.event.Event.TheVariants as event
 use Rattle.cds_base.specs.declared.cluster.Boundary.TheVariants as boundary
 use Rattle.cds_base.specs.declared.cluster.Part.{Part}
 use Rattle.cds_trace.specs.Signal.{Signal}
-use Rattle.cds_events.specs.Extremes.{first_greatest}
+use Rattle.cds_trace.specs.Extremes.{first_greatest}
 use Rattle.cds_events.specs.Pieces.{sample_of_time}
 
 -- the sample of a drop event

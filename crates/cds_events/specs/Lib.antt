@@ -1,4 +1,3 @@
-pub mod Extremes
 pub mod Pieces
 pub mod Placed
 pub mod Runs

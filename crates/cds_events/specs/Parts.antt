@@ -5,7 +5,7 @@ use Rattle.cds_base.specs.declared.cluster.Boundary.TheVariants.{Valley}
 use Rattle.cds_base.specs.declared.cluster.Part.{Part}
 use Rattle.cds_trace.specs.Signal.{Signal}
 use Rattle.cds_events.specs.declared.placed.Placed.{Placed}
-use Rattle.cds_events.specs.Extremes.{first_least}
+use Rattle.cds_trace.specs.Extremes.{first_least}
 
 -- the valley of two neighbours: the first least sample strictly between their apexes
 abbrev pub valley : Signal → Placed → Placed → ℕ

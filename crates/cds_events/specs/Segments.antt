@@ -5,7 +5,7 @@ use Rattle.cds_base.specs.declared.cluster.Part.{Part}
 use Rattle.cds_trace.specs.Signal.{Signal, sample_at}
 use Rattle.cds_events.specs.declared.segments.Segment.{Segment}
 use Rattle.cds_events.specs.Drops.{cut_by}
-use Rattle.cds_events.specs.Extremes.{first_greatest}
+use Rattle.cds_trace.specs.Extremes.{first_greatest}
 
 -- a segment of the signal: its ends lie apart, and its top is its first greatest sample, with the level there
 pub record IsSegment (signal : Signal) (segment : Segment) : Type 0 where

@@ -6,7 +6,7 @@ use Rattle.cds_base.specs.declared.cluster.Boundary.TheVariants.{Start}
 use Rattle.cds_base.specs.declared.cluster.Part.{Part}
 use Rattle.cds_base.specs.declared.cluster.Cluster.{Cluster}
 use Rattle.cds_trace.specs.Signal.{Signal, sample_at}
-use Rattle.cds_events.specs.Extremes.{first_greatest}
+use Rattle.cds_trace.specs.Extremes.{first_greatest}
 use Rattle.cds_base.specs.Tiles.{Tiles}
 
 -- a raw peak that begins at this sample or behind it

@@ -1,6 +1,6 @@
 ghost use Rattle.std.specs.Prelude.{◌≡◌, ◌+◌, ◌<◌, ◌≤◌, IfOk, length};
 ghost use Rattle.cds_base.specs.declared.cluster.Boundary.TheVariants.{Start};
-ghost use Rattle.cds_events.specs.Extremes.{first_least};
+ghost use Rattle.cds_trace.specs.Extremes.{first_least};
 ghost use Rattle.cds_events.specs.Parts.{part_end, parts_from};
 ghost use Rattle.cds_events.specs.Arrangement.{start_of, end_of};
 ghost use Rattle.cds_events.specs.Row.{IsAhead, Row, next_apex};

@@ -37,6 +37,7 @@ fn extent_in<L: Ledger>(
     steps: &mut Steps<L>,
 ) -> Option<Extent>
     ensures value { result ≡ extent_of (samples_in trace.now from_ms to_ms (length trace.now.samples)) }
+    ensures least { steps.old ≤ steps.new }
     ensures counted { steps.new ≤ steps.old + length trace.now.samples }
 {
     let period = trace.period();
@@ -60,6 +61,7 @@ pub fn noise<L: Ledger>(
     steps: &mut Steps<L>,
 ) -> Option<u32>
     ensures value { result ≡ noise_of trace.now from_ms to_ms }
+    ensures least { steps.old ≤ steps.new }
     ensures counted { steps.new ≤ steps.old + 2 * length trace.now.samples }
 {
     let Some(extent) = extent_in(trace, from_ms, to_ms, steps) else {

@@ -113,10 +113,8 @@ fn left_crossing<L: Ledger>(
 {
     let samples = trace.len();
     prove!(line.to < samples);
-    let mut i = apex;
     let mut inner = level.top;
-    while start < i {
-        i -= 1;
+    for i in (start..apex).rev() {
         let outer = scaled_height(i, line, trace, steps);
         if outer <= level.at {
             return Some(meeting_time(trace.period(), i, outer, inner, level.at));

@@ -7,9 +7,7 @@ use Rattle.cds_base.specs.declared.cluster.Cluster.{Cluster}
 use Rattle.cds_base.specs.declared.peak.RawPeak.{RawPeak}
 use Rattle.cds_rules.specs.declared.method.Method.{Method}
 use Rattle.cds_trace.specs.Signal.{Signal}
-use Rattle.cds_detect.specs.Least.{least}
 use Rattle.cds_detect.specs.Raw.{StandFrom}
-use Rattle.cds_events.specs.Extremes.{first}
 use Rattle.cds_events.specs.Standing.{RawFrom, IsCluster, ClustersFrom}
 use Rattle.cds_integrate.specs.declared.shapes.Shape.{Shape}
 use Rattle.cds_integrate.specs.declared.measures.Measured.{Measured}
@@ -83,7 +81,6 @@ row-count signal (shape ∷ later) start end row =
 -- raw peaks that stand one after the other
 
 pub raw-from : (signal : Signal) (at : ℕ) (peaks : List RawPeak) → StandFrom signal at peaks → RawFrom signal at peaks
-unfolding least first
 raw-from signal at [] s = tt
 raw-from signal at (p ∷ ps) s = (record { follows = s.0.follows; rises = s.0.rises; falls = s.0.falls; apex = s.0.apex; ends = s.0.ends }, raw-from signal p.end ps s.1)
 

@@ -9,3 +9,5 @@ pub mod PeakLaws
 pub mod OrderLaws
 pub mod TangentLaws
 pub mod SumLaws
+pub mod ConservationLaws
+pub mod PeakSums

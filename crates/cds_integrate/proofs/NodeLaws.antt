@@ -21,6 +21,10 @@ abbrev pub Each : (ℕ → Type 0) → List ℕ → Type 0
 Each P [] = Unit {0}
 Each P (n ∷ ns) = P n × Each P ns
 
+pub each-any : (ns : List ℕ) → Each (λ n. Unit {0}) ns
+each-any [] = tt
+each-any (n ∷ ns) = (tt, each-any ns)
+
 pub each-append : (P : ℕ → Type 0) (xs ys : List ℕ) → Each P xs → Each P ys → Each P (xs ++ ys)
 each-append P [] ys a b = b
 each-append P (x ∷ xs) ys a b = (a.0, each-append P xs ys a.1 b)

@@ -40,14 +40,14 @@ kept-positive signal method part kept =
     (grind (arith, common_steps), grind (arith, common_steps))
 
 -- one more peak
-pub peaks-on : (signal : Signal) (method : Method) (naming : List (Option ℕ)) (place : ℕ) (found : List Found) (peaks : List Peak) (one : Found) (peak : Peak) →
-    ArePeaks signal method naming place found peaks → IsPeak signal method (component_of naming (place + length found)) one peak →
-    ArePeaks signal method naming place (found ++ one ∷ []) (peaks ++ peak ∷ [])
-peaks-on signal method naming place [] [] one peak are is =
-    let e : place + 0 ≡ place = omega arith in
+pub peaks-on : (signal : Signal) (method : Method) (naming : List (Option ℕ)) (number : ℕ) (found : List Found) (peaks : List Peak) (one : Found) (peak : Peak) →
+    ArePeaks signal method naming number found peaks → IsPeak signal method (component_of naming (number + length found)) one peak →
+    ArePeaks signal method naming number (found ++ one ∷ []) (peaks ++ peak ∷ [])
+peaks-on signal method naming number [] [] one peak are is =
+    let e : number + 0 ≡ number = omega arith in
     (rw e at is, tt)
-peaks-on signal method naming place [] (p ∷ ps) one peak are is = absurd are
-peaks-on signal method naming place (f ∷ fs) [] one peak are is = absurd are
-peaks-on signal method naming place (f ∷ fs) (p ∷ ps) one peak are is =
-    let e : place + suc (length fs) ≡ suc place + length fs = omega arith in
-    (are.0, peaks-on signal method naming (suc place) fs ps one peak are.1 (rw e at is))
+peaks-on signal method naming number [] (p ∷ ps) one peak are is = absurd are
+peaks-on signal method naming number (f ∷ fs) [] one peak are is = absurd are
+peaks-on signal method naming number (f ∷ fs) (p ∷ ps) one peak are is =
+    let e : number + suc (length fs) ≡ suc number + length fs = omega arith in
+    (are.0, peaks-on signal method naming (suc number) fs ps one peak are.1 (rw e at is))

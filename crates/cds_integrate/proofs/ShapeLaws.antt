@@ -1,12 +1,11 @@
 -- How the parts of a cluster stand on their lines.
-use Rattle.std.proofs.Common.{◌≡◌, ℕ, suc, ◌+◌, ◌-◌, ◌*◌, ◌<◌, ◌≤◌, inl, inr, Bool, true, false, not, ◌&&◌, List, [], ◌∷◌, map, length, All, ℤ, pos, negsuc, ◌*ℤ◌, ◌≤ℤ◌, refl, sym, arith}
+use Rattle.std.proofs.Common.{◌≡◌, ℕ, suc, ◌+◌, ◌-◌, ◌*◌, ◌<◌, ◌≤◌, inl, inr, Bool, true, false, not, ◌&&◌, List, [], ◌∷◌, map, length, All, pos, ◌*ℤ◌, ◌≤ℤ◌, refl, sym, arith}
 use Rattle.std.proofs.lemmas.List.{length-map}
 use Rattle.std.specs.Prelude.{slice_index_or, nat_lt, ◌==◌}
 use Rattle.std.specs.List.{list_any}
 use Rattle.std.proofs.lemmas.Bool.{cases_Bool, and_parts}
 use Rattle.std.proofs.lemmas.Int.{ints}
 use Rattle.std.proofs.lemmas.Grind.{common_steps}
-use Rattle.std.proofs.Math.Nat.{mul-pos}
 use borrow.Author.Differences.{le-true}
 use Rattle.cds_base.specs.declared.event.Event.{Event}
 use Rattle.cds_base.specs.declared.cluster.Part.{Part}
@@ -24,14 +23,10 @@ use Rattle.cds_integrate.specs.Lines.{chord, last_up_to, first_behind}
 use Rattle.cds_integrate.specs.Shapes.{skims, is_covered, nodes_of, is_skimmed, is_rider, rider_shape, plain_shape, shape_of}
 use Rattle.cds_integrate.specs.Measures.{twice_whole_area}
 use Rattle.cds_integrate.specs.Standing.{from_reach, IsOver, IsShape, InRow}
+use Rattle.cds_integrate.proofs.NumberLaws.{times-sign}
 use Rattle.cds_integrate.proofs.PartLaws.{IsClear, tiles-order, part-within, clear-at}
 use Rattle.cds_integrate.proofs.NodeLaws.{IsNextNode, last_up_to-low, next-node}
 use Rattle.cds_integrate.proofs.RowLaws.{reach-on, reach-end}
-
--- of numbers whose multiple by a number above 0 isn't negative none is negative
-times-sign : (z : ℤ) (s : ℕ) → 0 < s → pos 0 ≤ℤ (z *ℤ pos s) → pos 0 ≤ℤ z
-times-sign (pos n) s some h = omega (arith, ints)
-times-sign (negsuc n) s some h = absurd (omega (arith, ints, mul-pos {m = suc n} {n = s} (omega arith) some))
 
 -- a chord under which no sample lies has an area that isn't negative
 pub twice-not_negative : (signal : Signal) (v j : ℕ) → v < j → j < length signal.samples →

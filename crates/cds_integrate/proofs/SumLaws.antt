@@ -1,36 +1,35 @@
--- Conservation: the areas of the parts over one baseline line are together the area over the whole line.
-use Rattle.std.proofs.Common.{◌≡◌, ℕ, zero, suc, ◌-◌, ◌*◌, ◌<◌, ◌≤◌, inl, inr, Bool, true, false, List, [], ◌∷◌, ◌++◌, map, All, ℤ, pos, negsuc, ◌+ℤ◌, ◌-ℤ◌, ◌*ℤ◌, neg_ℤ, refl, sym, ap, subst, ◌∙◌, append_assoc, arith}
+-- Conservation in a cluster: the areas of its parts over one baseline line are together the area over the whole line.
+use Rattle.std.proofs.Common.{◌≡◌, ℕ, ◌-◌, ◌*◌, ◌<◌, ◌≤◌, inl, inr, Bool, true, false, List, [], ◌∷◌, ◌++◌, map, ℤ, pos, ◌+ℤ◌, ◌-ℤ◌, ◌*ℤ◌, refl, sym, ap, subst, ◌∙◌, append_assoc, arith}
 use Rattle.std.specs.Prelude.{nat_le, ◌==◌, if◌then◌else◌}
 use Rattle.std.specs.List.{fold, filter, list_any}
 use Rattle.std.proofs.lemmas.Bool.{cases_Bool, cases_lt}
 use Rattle.std.proofs.lemmas.Int.{ints}
 use Rattle.std.proofs.lemmas.Grind.{common_steps}
 use Rattle.std.proofs.lemmas.List.{length-map}
-use Rattle.std.proofs.Math.IntN.{pos-*ℤ-pos, negsuc-*ℤ-pos}
-use Rattle.cds_area.proofs.LineLaws.{add-mul, neg-mul}
+use Rattle.cds_area.proofs.LineLaws.{add-mul}
 use Rattle.cds_base.specs.declared.event.Event.{Event}
 use Rattle.cds_base.specs.declared.cluster.Part.{Part}
 use Rattle.cds_base.specs.declared.cluster.Cluster.{Cluster}
 use Rattle.cds_base.specs.Tiles.{Tiles}
-use Rattle.cds_trace.specs.Signal.{Signal, IsTrace}
+use Rattle.cds_trace.specs.Signal.{Signal}
 use Rattle.cds_trace.specs.Heights.{span}
 use Rattle.cds_area.specs.Area.{area_by_double_span}
 use Rattle.cds_area.proofs.AreaLaws.{area-split}
-use Rattle.cds_events.specs.Standing.{IsCluster, ClustersFrom}
+use Rattle.cds_events.specs.Standing.{IsCluster}
 use Rattle.cds_integrate.specs.declared.shapes.Shape.{Shape}
 use Rattle.cds_integrate.specs.declared.measures.Measured.{Measured}
 use Rattle.cds_integrate.specs.Lines.{chord, line_over, last_up_to, first_behind}
 use Rattle.cds_integrate.specs.Shapes.{is_covered, nodes_of, is_rider, rider_shape, plain_shape, shape_of, shapes_of}
 use Rattle.cds_integrate.specs.Measures.{riders, twice_whole_area, twice_areas, gross_area, area_of, measure, measured}
-use Rattle.cds_integrate.specs.Sums.{AreOver, AreTogether, area_fraction, lies_within, IsConserved, AreConserved, ConservesIn}
+use Rattle.cds_integrate.specs.Sums.{AreOver, AreTogether, area_fraction, lies_within, IsConserved, EachTwo}
+use Rattle.cds_integrate.specs.Row.{parts_in}
 use Rattle.cds_integrate.specs.Standing.{from_reach, IsShape, InRow}
+use Rattle.cds_integrate.proofs.NumberLaws.{mul-mul}
 use Rattle.cds_integrate.proofs.PartLaws.{IsClear}
 use Rattle.cds_integrate.proofs.RowLaws.{reach-on, reach-end, reach-low}
 use Rattle.cds_integrate.proofs.AreaLaws.{gross-rider, twice-from, twice-end}
 use Rattle.cds_integrate.proofs.NodeLaws.{Each}
 use Rattle.cds_integrate.proofs.ShapeLaws.{rider-apart, reach-clear}
-use Rattle.cds_integrate.proofs.FoundLaws.{cluster-anywhere}
-use Rattle.cds_integrate.proofs.TangentLaws.{cluster-row}
 use Rattle.cds_integrate.proofs.OrderLaws.{Up, AreNodes, cluster-nodes, between-nodes, nodes-rise, each-mid, any-mid}
 
 -- what a part's area is over a line of this span
@@ -52,7 +51,7 @@ pub record IsWalked (signal : Signal) (a b start : ℕ) (shapes : List Shape) : 
       ≡ twice_areas signal (riders shapes) *ℤ pos (b - a) +ℤ area_by_double_span signal (chord signal a b) (from_reach start shapes) b
 
 -- a part that doesn't lie between the two
-filter-out : (signal : Signal) (a b : ℕ) (shape : Shape) (later : List Shape) → lies_within a b (measure signal shape later) ≡ false →
+pub filter-out : (signal : Signal) (a b : ℕ) (shape : Shape) (later : List Shape) → lies_within a b (measure signal shape later) ≡ false →
     filter (lies_within a b) (measured signal (shape ∷ later)) ≡ filter (lies_within a b) (measured signal later)
 filter-out signal a b shape later out = rw out refl
 
@@ -60,7 +59,7 @@ filter-in : (signal : Signal) (a b : ℕ) (shape : Shape) (later : List Shape) �
     filter (lies_within a b) (measured signal (shape ∷ later)) ≡ measure signal shape later ∷ filter (lies_within a b) (measured signal later)
 filter-in signal a b shape later in_it = rw in_it refl
 
-within-not-left : (a b : ℕ) (part : Measured) → part.shape.start < a → lies_within a b part ≡ false
+pub within-not-left : (a b : ℕ) (part : Measured) → part.shape.start < a → lies_within a b part ≡ false
 within-not-left a b part before =
     let left : nat_le a part.shape.start ≡ false = grind (arith, common_steps) in
     rw left refl
@@ -80,7 +79,7 @@ within-yes a b part left right =
     rw (l, r) refl
 
 -- no part that begins at the right one or behind it
-none-within : (signal : Signal) (a b start end : ℕ) (shapes : List Shape) → b ≤ start → InRow signal start shapes end →
+pub none-within : (signal : Signal) (a b start end : ℕ) (shapes : List Shape) → b ≤ start → InRow signal start shapes end →
     filter (lies_within a b) (measured signal shapes) ≡ []
 none-within signal a b start end [] behind row = refl
 none-within signal a b start end (shape ∷ later) behind row =
@@ -99,13 +98,9 @@ walk-none signal a b start end shapes at row free =
 
 -- a product of three, in another order
 cross : (t : ℤ) (s x : ℕ) → (t *ℤ pos s) *ℤ pos (2 * x) ≡ (t *ℤ pos x) *ℤ pos (2 * s)
-cross (pos n) s x =
-    let e : n * s * (2 * x) ≡ n * x * (2 * s) = omega arith in
-    ap (λ (z : ℤ). z *ℤ pos (2 * x)) (pos-*ℤ-pos n s) ∙ (pos-*ℤ-pos (n * s) (2 * x) ∙ (ap pos e ∙ (sym (pos-*ℤ-pos (n * x) (2 * s)) ∙ ap (λ (z : ℤ). z *ℤ pos (2 * s)) (sym (pos-*ℤ-pos n x)))))
-cross (negsuc n) s x =
-    let e : suc n * s * (2 * x) ≡ suc n * x * (2 * s) = omega arith in
-    let turn : (m k : ℕ) → neg_ℤ (pos m) *ℤ pos k ≡ neg_ℤ (pos (m * k)) = λ m k. neg-mul (pos m) k ∙ ap neg_ℤ (pos-*ℤ-pos m k) in
-    ap (λ (z : ℤ). z *ℤ pos (2 * x)) (negsuc-*ℤ-pos n s) ∙ (turn (suc n * s) (2 * x) ∙ (ap (λ (m : ℕ). neg_ℤ (pos m)) e ∙ (sym (turn (suc n * x) (2 * s)) ∙ ap (λ (z : ℤ). z *ℤ pos (2 * s)) (sym (negsuc-*ℤ-pos n x)))))
+cross t s x =
+    let e : s * (2 * x) ≡ x * (2 * s) = omega arith in
+    mul-mul t s (2 * x) ∙ (ap (λ (k : ℕ). t *ℤ pos k) e ∙ sym (mul-mul t x (2 * s)))
 
 -- the sum with a rider more, and with a parent more
 rider-sum : (share whole rest areas later : ℤ) (width : ℕ) → share ≡ whole *ℤ pos width → rest ≡ later *ℤ pos width +ℤ areas →
@@ -138,6 +133,7 @@ walk-rider signal a b start shape later rider is left right rest =
     let part : Measured = measure signal shape later in
     let width : ℕ = b - a in
     let t : ℤ = twice_whole_area signal shape.line in
+    let wide : 0 < 2 * span shape.line = omega (arith, is.from, is.order, is.to) in
     let kept = filter-in signal a b shape later (within-yes a b part left (omega (arith, is.reaches, right))) in
     let shares : List ℤ = map (share_of signal width) (filter (lies_within a b) (measured signal later)) in
     let share : share_of signal width part ≡ t *ℤ pos width = rw rider refl in
@@ -149,7 +145,7 @@ walk-rider signal a b start shape later rider is left right rest =
     ≡ (t +ℤ twice_areas signal (riders later)) *ℤ pos width +ℤ areas =
     rw (twice-one signal shape later rider, reach-on start shape later rider) refl in
     record {
-      each = rw kept (one, rest.each);
+      each = rw kept (wide, one, rest.each);
       sum = rw kept (sum-from (pos 0 +ℤ share_of signal width part) shares ∙
           (rider-sum (share_of signal width part) t (fold ◌+ℤ◌ (pos 0) shares) areas (twice_areas signal (riders later)) width share rest.sum ∙ sym target));
     }
@@ -161,6 +157,7 @@ walk-plain : (signal : Signal) (a b start end : ℕ) (shape : Shape) (later : Li
 walk-plain signal a b start end shape later other line is at left whole right far row rest =
     let part : Measured = measure signal shape later in
     let width : ℕ = b - a in
+    let wide : 0 < 2 * span shape.line = omega (arith, is.from, is.order, is.to) in
     let kept = filter-in signal a b shape later (within-yes a b part left (omega (arith, is.reaches, right))) in
     let shares : List ℤ = map (share_of signal width) (filter (lies_within a b) (measured signal later)) in
     let same : share_of signal width part ≡ area_of signal shape later = rw other refl in
@@ -178,7 +175,7 @@ walk-plain signal a b start end shape later other line is at left whole right fa
     ≡ pos 0 *ℤ pos width +ℤ area_by_double_span signal (chord signal a b) shape.start b =
     rw (twice-end signal shape later other, reach-end start shape later other, at) refl in
     record {
-      each = rw kept (one, rest.each);
+      each = rw kept (wide, one, rest.each);
       sum = rw kept (sum-from (pos 0 +ℤ share_of signal width part) shares ∙
           (plain-sum (share_of signal width part) gross taken (fold ◌+ℤ◌ (pos 0) shares) behind (area_by_double_span signal (chord signal a b) shape.start b) width share rest.sum split ∙ sym target));
     }
@@ -264,6 +261,7 @@ approach signal events nodes a b end lines first among order inside start (part 
           let target : twice_areas signal (riders shapes) *ℤ pos (b - a) +ℤ area_by_double_span signal (chord signal a b) (from_reach start shapes) b ≡ area_by_double_span signal (chord signal a b) a b =
           rw (free, here) (omega (arith, ints)) in
           record {
+            some = omega (arith, order);
             shares = map (share_of signal (b - a)) (filter (lies_within a b) (measured signal shapes));
             each = walked.each;
             sum = walked.sum ∙ target;
@@ -273,7 +271,7 @@ approach signal events nodes a b end lines first among order inside start (part 
 -- the parts between each two nodes in a row
 conserved-from : (signal : Signal) (events : List Event) (nodes : List ℕ) (start end : ℕ) (parts : List Part) → AreNodes nodes parts start end → Tiles start parts end →
     InRow signal start (map (shape_of signal events nodes) parts) end → (front back : List ℕ) → nodes ≡ front ++ back →
-    AreConserved signal (measured signal (map (shape_of signal events nodes) parts)) back
+    EachTwo (IsConserved signal (measured signal (map (shape_of signal events nodes) parts))) back
 conserved-from signal events nodes start end parts are tiled row front [] e = tt
 conserved-from signal events nodes start end parts are tiled row front (a ∷ []) e = tt
 conserved-from signal events nodes start end parts are tiled row front (a ∷ b ∷ back) e =
@@ -297,17 +295,8 @@ conserved-from signal events nodes start end parts are tiled row front (a ∷ b 
 -- the areas over each baseline line of a cluster
 pub cluster-conserved : (signal : Signal) (events : List Event) (cluster : Cluster) → IsCluster signal 0 cluster →
     InRow signal cluster.start (shapes_of signal events cluster) cluster.end →
-    AreConserved signal (measured signal (shapes_of signal events cluster)) (nodes_of signal events cluster)
+    EachTwo (IsConserved signal (parts_in signal events cluster)) (nodes_of signal events cluster)
 cluster-conserved signal events cluster is row =
     let covered : List Bool = map (is_covered signal events) cluster.parts in
     let are = cluster-nodes signal cluster covered is.some is.tiled (length-map cluster.parts (is_covered signal events)) in
     conserved-from signal events (nodes_of signal events cluster) cluster.start cluster.end cluster.parts are is.tiled row [] (nodes_of signal events cluster) refl
-
--- the areas over each baseline line of clusters one after the other
-pub clusters-conserved : (signal : Signal) (events : List Event) (at : ℕ) (clusters : List Cluster) → IsTrace signal → ClustersFrom signal at clusters →
-    All (ConservesIn signal events) clusters
-clusters-conserved signal events at [] trace from k d below = absurd (omega arith)
-clusters-conserved signal events at (cluster ∷ clusters) trace from zero d below =
-    let is = cluster-anywhere signal at cluster from.0 in
-    cluster-conserved signal events cluster is (cluster-row signal events cluster trace is)
-clusters-conserved signal events at (cluster ∷ clusters) trace from (suc k) d below = clusters-conserved signal events cluster.end clusters trace from.1 k d (omega arith)

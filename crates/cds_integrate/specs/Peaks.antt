@@ -1,5 +1,5 @@
 -- The peaks of a row: the parts that aren't rejected, each with its widths, its valley and its name. This project's own rules.
-use Rattle.std.specs.Prelude.{◌≡◌, ℕ, suc, ◌-◌, ◌*◌, ◌&&◌, ◌==◌, Bool, false, not, List, [], ◌∷◌, Option, Some, None, length, ℤ, pos, int_lt, if◌then◌else◌}
+use Rattle.std.specs.Prelude.{◌≡◌, ℕ, suc, ◌*◌, ◌&&◌, ◌==◌, Bool, false, not, List, [], ◌∷◌, Option, Some, None, length, ℤ, pos, int_lt, if◌then◌else◌}
 use Rattle.std.specs.List.{filter, find, range_with_len}
 use Rattle.cds_base.specs.declared.peak.Ratio.{Ratio}
 use Rattle.cds_base.specs.declared.peak.Peak.{Peak}
@@ -7,7 +7,7 @@ use Rattle.cds_rules.specs.declared.method.Method.{Method}
 use Rattle.cds_trace.specs.Signal.{Signal}
 use Rattle.cds_trace.specs.Heights.{span, height_by_span}
 use Rattle.cds_area.specs.Area.{IsRatio}
-use Rattle.cds_names.specs.Naming.{peak_of}
+use Rattle.cds_names.specs.Naming.{number_of}
 use Rattle.cds_figures.specs.Crossings.{crossings_of}
 use Rattle.cds_integrate.specs.declared.shapes.Shape.{Shape}
 use Rattle.cds_integrate.specs.declared.measures.Measured.{Measured}
@@ -74,19 +74,19 @@ pub record IsPeak (signal : Signal) (method : Method) (component : Option ℕ) (
   pub valley : IsValley signal found.part (neighbour signal method found.before found.part) peak.valley
   pub component_is : peak.component ≡ component
 
--- a component's entry in a naming gives it the peak at this place
+-- what a component names is the peak of this number
 abbrev pub gives : ℕ → Option ℕ → Bool
-gives place None = false
-gives place (Some peak) = peak == place
+gives number None = false
+gives number (Some peak) = peak == number
 
--- the number, from 1, of the component that the peak at this place is named
+-- the number of the component that names the peak of this number; both are counted from 1
 abbrev pub component_of : List (Option ℕ) → ℕ → Option ℕ
-component_of naming place = find (λ number. gives place (peak_of naming (number - 1))) (range_with_len 1 (length naming))
+component_of naming number = find (λ component. gives number (number_of naming component)) (range_with_len 1 (length naming))
 
--- the peaks of a row, in their order, from this place on
+-- the peaks of a row in their order, the first of which has this number
 abbrev pub ArePeaks : Signal → Method → List (Option ℕ) → ℕ → List Found → List Peak → Type 0
-ArePeaks signal method naming place [] [] = Unit {0}
-ArePeaks signal method naming place [] (peak ∷ peaks) = ⊥
-ArePeaks signal method naming place (found ∷ rest) [] = ⊥
-ArePeaks signal method naming place (found ∷ rest) (peak ∷ peaks) =
-    IsPeak signal method (component_of naming place) found peak × ArePeaks signal method naming (suc place) rest peaks
+ArePeaks signal method naming number [] [] = Unit {0}
+ArePeaks signal method naming number [] (peak ∷ peaks) = ⊥
+ArePeaks signal method naming number (found ∷ rest) [] = ⊥
+ArePeaks signal method naming number (found ∷ rest) (peak ∷ peaks) =
+    IsPeak signal method (component_of naming number) found peak × ArePeaks signal method naming (suc number) rest peaks

@@ -63,7 +63,7 @@ apex_time signal found = found.part.shape.apex * signal.period
 pub record AreNamed (signal : Signal) (method : Method) (found : List Found) (peaks : List Peak) : Type 0 where
   pub naming : List (Option ℕ)
   pub unblocked : IsUnblocked (windows_of method) (map (apex_time signal) found) naming
-  pub peaks_are : ArePeaks signal method naming 0 found peaks
+  pub peaks_are : ArePeaks signal method naming 1 found peaks
 
 -- the row of a trace: its peaks, or the number of raw peaks where there are more than a row may have
 abbrev pub IsRow : Signal → Method → List Event → Answer → Type 0

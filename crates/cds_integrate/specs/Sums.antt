@@ -1,8 +1,9 @@
--- Conservation: what the areas of the parts over one baseline line are together. This project's own rule.
-use Rattle.std.specs.Prelude.{◌≡◌, ℕ, ◌*◌, List, [], ◌∷◌, ◌&&◌, Bool, All, nat_le, map, ℤ, pos, ◌+ℤ◌, ◌*ℤ◌}
-use Rattle.std.specs.List.{fold, filter}
+-- Conservation: what the areas over one baseline line are together, those of the parts and those of the peaks. This
+-- project's own rule.
+use Rattle.std.specs.Prelude.{◌≡◌, ℕ, ◌*◌, ◌<◌, List, [], ◌∷◌, ◌&&◌, Bool, false, All, nat_le, map, ℤ, pos, ◌+ℤ◌, ◌*ℤ◌}
+use Rattle.std.specs.List.{fold, filter, list_any}
 use Rattle.cds_base.specs.declared.event.Event.{Event}
-use Rattle.cds_base.specs.declared.cluster.Cluster.{Cluster}
+use Rattle.cds_base.specs.declared.peak.Peak.{Peak}
 use Rattle.cds_rules.specs.declared.method.Method.{Method}
 use Rattle.cds_trace.specs.Signal.{Signal}
 use Rattle.cds_trace.specs.Heights.{span}
@@ -11,48 +12,67 @@ use Rattle.cds_integrate.specs.declared.measures.Measured.{Measured}
 use Rattle.cds_integrate.specs.declared.row_part.Answer.{Answer}
 use Rattle.cds_integrate.specs.declared.row_part.Answer.TheVariants as variant
 use Rattle.cds_integrate.specs.Lines.{chord}
-use Rattle.cds_integrate.specs.Shapes.{nodes_of, shapes_of}
-use Rattle.cds_integrate.specs.Measures.{measured}
-use Rattle.cds_integrate.specs.Row.{events_of, row_clusters}
+use Rattle.cds_integrate.specs.Shapes.{nodes_of}
+use Rattle.cds_integrate.specs.Measures.{is_rejected}
+use Rattle.cds_integrate.specs.Row.{events_of, row_clusters, parts_of}
 
--- these whole numbers, over the divisor den, are the fractions one by one
+-- these whole numbers, over the divisor den, are the fractions one by one; the divisor of each is above 0
 abbrev pub AreOver : ℕ → List ℤ → List (ℤ × ℕ) → Type 0
 AreOver den [] [] = Unit {0}
 AreOver den [] (fraction ∷ fractions) = ⊥
 AreOver den (share ∷ shares) [] = ⊥
 AreOver den (share ∷ shares) (fraction ∷ fractions) =
-    (share *ℤ pos fraction.1 ≡ fraction.0 *ℤ pos den) × AreOver den shares fractions
+    (0 < fraction.1) × (share *ℤ pos fraction.1 ≡ fraction.0 *ℤ pos den) × AreOver den shares fractions
 
--- the fractions are together num / den: over that divisor they are whole numbers, whose sum is num
+-- the fractions are together num / den: over that divisor, which is above 0, they are whole numbers, whose sum is num
 pub record AreTogether (fractions : List (ℤ × ℕ)) (num : ℤ) (den : ℕ) : Type 0 where
+  pub some : 0 < den
   pub shares : List ℤ
   pub each : AreOver den shares fractions
   pub sum : fold ◌+ℤ◌ (pos 0) shares ≡ num
 
--- the area of a part, as a fraction
+-- these areas are together the area over the whole chord of two samples
+abbrev pub AreWhole : Signal → ℕ → ℕ → List (ℤ × ℕ) → Type 0
+AreWhole signal a b areas = AreTogether areas (area_by_double_span signal (chord signal a b) a b) (2 * span (chord signal a b))
+
+-- the area of a part as a fraction, and that of a peak
 abbrev pub area_fraction : Measured → ℤ × ℕ
 area_fraction part = (part.area, 2 * span part.shape.line)
 
--- the range of a part lies between two samples
+abbrev pub peak_fraction : Peak → ℤ × ℕ
+peak_fraction peak = (peak.area.num, peak.area.den)
+
+-- the range of a part lies between two samples, and that of a peak
 abbrev pub lies_within : ℕ → ℕ → Measured → Bool
 lies_within a b part = nat_le a part.shape.start && nat_le part.shape.end b
 
--- the areas of the parts between two samples are together the area over the whole chord of the two
+abbrev pub peak_lies_within : ℕ → ℕ → Peak → Bool
+peak_lies_within a b peak = nat_le a peak.start && nat_le peak.end b
+
+-- the areas of the parts between two samples, riders and rejected ones included, are together the area over their whole chord
 abbrev pub IsConserved : Signal → List Measured → ℕ → ℕ → Type 0
-IsConserved signal parts a b =
-    AreTogether (map area_fraction (filter (lies_within a b) parts)) (area_by_double_span signal (chord signal a b) a b) (2 * span (chord signal a b))
+IsConserved signal parts a b = AreWhole signal a b (map area_fraction (filter (lies_within a b) parts))
 
--- the same for each two nodes in a row
-abbrev pub AreConserved : Signal → List Measured → List ℕ → Type 0
-AreConserved signal parts [] = Unit {0}
-AreConserved signal parts (a ∷ []) = Unit {0}
-AreConserved signal parts (a ∷ b ∷ nodes) = IsConserved signal parts a b × AreConserved signal parts (b ∷ nodes)
+-- where none of these parts is rejected, the areas of the peaks between the two samples are together the same
+abbrev pub IsSummed : Signal → Method → List Measured → List Peak → ℕ → ℕ → Type 0
+IsSummed signal method parts peaks a b =
+    list_any (is_rejected signal method) (filter (lies_within a b) parts) ≡ false → AreWhole signal a b (map peak_fraction (filter (peak_lies_within a b) peaks))
 
--- the areas over each baseline line of a cluster are conserved
-abbrev pub ConservesIn : Signal → List Event → Cluster → Type 0
-ConservesIn signal events cluster = AreConserved signal (measured signal (shapes_of signal events cluster)) (nodes_of signal events cluster)
+-- P holds of each two neighbours in a list of samples
+abbrev pub EachTwo : (ℕ → ℕ → Type 0) → List ℕ → Type 0
+EachTwo P [] = Unit {0}
+EachTwo P (a ∷ []) = Unit {0}
+EachTwo P (a ∷ b ∷ samples) = P a b × EachTwo P (b ∷ samples)
 
--- and those of each cluster of a row
-abbrev pub Conserves : Signal → Method → List Event → Answer → Type 0
-Conserves signal method manual (variant.Peaks peaks) = All (ConservesIn signal (events_of method manual)) (row_clusters signal method manual)
-Conserves signal method manual (variant.TooMany number) = Unit {0}
+-- P holds of the ends of each baseline line of a row: of each two neighbouring nodes, in each of its clusters
+abbrev pub OverEachLine : Signal → Method → List Event → (ℕ → ℕ → Type 0) → Type 0
+OverEachLine signal method manual P = All (λ cluster. EachTwo P (nodes_of signal (events_of method manual) cluster)) (row_clusters signal method manual)
+
+-- over each baseline line of a row the areas of all its parts are conserved
+abbrev pub Conserves : Signal → Method → List Event → Type 0
+Conserves signal method manual = OverEachLine signal method manual (IsConserved signal (parts_of signal method manual))
+
+-- and those of its peaks are, where no part over the line is rejected; a row of too many raw peaks has no peaks
+abbrev pub Sums : Signal → Method → List Event → Answer → Type 0
+Sums signal method manual (variant.Peaks peaks) = OverEachLine signal method manual (IsSummed signal method (parts_of signal method manual) peaks)
+Sums signal method manual (variant.TooMany number) = Unit {0}

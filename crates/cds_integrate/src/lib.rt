@@ -1,9 +1,11 @@
 //! A row of results from a trace and a method: its peaks, with exact areas and heights, widths and names.
 //!
-//! Begin at [`row`]: it is the only call that makes a [`RowPart`].
+//! Begin at [`row`]: it is the only call that makes a [`RowPart`]. What holds of the areas of each row is stated over the
+//! definitions alone by [`areas_are_conserved`] and [`areas_of_peaks_are_conserved`].
 #![tactic(auto)]
 
 mod found;
+mod laws;
 mod lines;
 mod measures;
 mod naming;
@@ -12,6 +14,7 @@ mod row_part;
 mod rows;
 mod shapes;
 
+pub use laws::{areas_are_conserved, areas_of_peaks_are_conserved};
 pub use row_part::{PeakList, RowPart};
 pub use rows::row;
 

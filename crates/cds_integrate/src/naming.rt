@@ -48,25 +48,25 @@ pub(crate) fn apex_times(
     Ok(times)
 }
 
-/// Whether a component's entry in a naming gives it the peak at this place.
-fn gives(entry: Option<u32>, place: u32) -> bool
-    ensures { result ≡ gives place entry }
+/// Whether what a component names is the peak of this number.
+fn gives(named: Option<u32>, number: u32) -> bool
+    ensures { result ≡ gives number named }
 {
-    match entry {
-        Some(peak) => peak == place,
+    match named {
+        Some(peak) => peak == number,
         None => false,
     }
 }
 
-/// The number, from 1, of the component that the peak at this place is named, among so many components.
-pub(crate) fn component_of(names: &Names, count: u32, place: u32) -> Option<u32>
+/// The number of the component that names the peak of this number, among so many components. Both are counted from 1.
+pub(crate) fn component_of(names: &Names, count: u32, number: u32) -> Option<u32>
     requires whole { length names.now ≡ count }
     requires few { count ≤ MOST_COMPONENTS }
-    ensures { result ≡ component_of names.now place }
+    ensures { result ≡ component_of names.now number }
 {
-    for number in 1..count + 1 {
-        if gives(names.of(number - 1), place) {
-            return Some(number);
+    for component in 1..count + 1 {
+        if gives(names.of(component), number) {
+            return Some(component);
         }
     }
     None

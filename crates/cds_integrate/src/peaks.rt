@@ -153,7 +153,7 @@ fn peak_of<L: Ledger>(
     }
 }
 
-/// The peaks of a row, named. At most five steps for each sample of their ranges but one.
+/// The peaks of a row, named; the first has the number 1. At most five steps for each sample of their ranges but one.
 pub(crate) fn peaks_of<L: Ledger>(
     alloc: Global,
     found: &[Found],
@@ -165,7 +165,7 @@ pub(crate) fn peaks_of<L: Ledger>(
     requires found { All (IsFound trace.now method.now) found.now }
     requires few { length found.now < 2 ^ 32 }
     requires names { length names.now ≡ length method.now.components }
-    ensures value { IfOk result (λ v. ArePeaks trace.now method.now names.now 0 found.now v.items) }
+    ensures value { IfOk result (λ v. ArePeaks trace.now method.now names.now 1 found.now v.items) }
     ensures sound { IfOk result (λ v. All IsSound v.items) }
     ensures stand { IfOk result (λ v. All (StandsIn trace.now) v.items) }
     ensures least { steps.old ≤ steps.new }
@@ -174,7 +174,7 @@ pub(crate) fn peaks_of<L: Ledger>(
     let count = method.components.len() as u32;
     let mut peaks = Vec::with_capacity(alloc, found.len())?;
     for place in 0..found.len() {
-        let component = component_of(names, count, place as u32);
+        let component = component_of(names, count, place as u32 + 1);
         peaks.push(peak_of(found[place], component, trace, method, steps))?;
     }
     Ok(peaks)

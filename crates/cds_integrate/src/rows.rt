@@ -3,9 +3,9 @@ ghost use Rattle.std.specs.List.{flat_map};
 ghost use Rattle.cds_detect.specs.Raw.{raw_peaks_of};
 ghost use Rattle.cds_detect.specs.Settings.{settings_of};
 ghost use Rattle.cds_events.specs.Standing.{IsCluster, ClustersFrom, RawFrom};
-ghost use Rattle.cds_integrate.specs.Row.{events_of, found_in, found_of, row_clusters, peaks_in, AreNamed, IsSound, StandsIn, IsRow};
+ghost use Rattle.cds_integrate.specs.Row.{events_of, found_in, found_of, peaks_in, AreNamed, IsSound, StandsIn, IsRow};
 ghost use Rattle.cds_integrate.specs.Standing.{IsFound, widths};
-ghost use Rattle.cds_integrate.specs.Sums.{ConservesIn, Conserves};
+ghost use Rattle.cds_integrate.specs.Sums.{Conserves, Sums};
 
 use crate::found::{Found, add_accepted};
 use crate::measures::measure_all;
@@ -90,7 +90,6 @@ fn peaks_from<L: Ledger>(
     ensures value { IfOk result (λ v. AreNamed trace.now method.now (found_of trace.now method.now manual.now) v.items) }
     ensures sound { IfOk result (λ v. All IsSound v.items) }
     ensures stand { IfOk result (λ v. All (StandsIn trace.now) v.items) }
-    ensures conserved { IfOk result (λ v. All (ConservesIn trace.now (events_of method.now manual.now)) (row_clusters trace.now method.now manual.now)) }
     ensures least { steps.old ≤ steps.new }
     ensures most { steps.new ≤ steps.old + 19 * length trace.now.samples }
 {
@@ -119,11 +118,13 @@ fn peaks_from<L: Ledger>(
 /// exact area and height, its crossings at half height and at one twentieth of it, and the heights for its peak to valley
 /// ratio. Components are numbered from 1; they name the peaks by the one naming that no wanted pair blocks.
 ///
-/// Over each baseline line between two nodes in a row the exact areas of all parts, riders and rejected ones included, are
-/// together the area over the whole line.
+/// Over each baseline line between two neighbouring nodes the exact areas of all parts whose ranges lie there, riders and
+/// rejected ones included, are together the area over the whole line. So where none of them is rejected, the areas of the
+/// peaks there are together the same.
 ///
 /// `TooMany` comes exactly where there are more than 500 raw peaks. Want of memory is the one other answer. At least one
 /// step, since sample 0 is read first, and at most 32 for each sample of the trace. The rules are this project's own.
+#[tactic(auto, using(crate::proofs::PeakSums::sums))]
 pub fn row<L: Ledger>(
     alloc: Global,
     trace: &Trace,
@@ -133,7 +134,8 @@ pub fn row<L: Ledger>(
 ) -> Result<RowPart, NoMemory>
     ensures value { IfOk result (IsRow trace.now method.now manual.now) }
     ensures stand { IfOk result (λ row. All (StandsIn trace.now) (peaks_in row)) }
-    ensures conserved { IfOk result (Conserves trace.now method.now manual.now) }
+    ensures conserved { Conserves trace.now method.now manual.now }
+    ensures sums { IfOk result (Sums trace.now method.now manual.now) }
     ensures least { steps.old + 1 ≤ steps.new }
     ensures most { steps.new ≤ steps.old + 32 * length trace.now.samples }
 {

@@ -19,6 +19,9 @@ const DEEP: &[i32] = &[50, 50, 50, 60, 90, 110, 60, 20, 60, 110, 90, 60, 50, 50,
 // The valley of two peaks lies above half of their height.
 const HIGH: &[i32] = &[0, 0, 0, 10, 40, 60, 50, 40, 50, 60, 40, 10, 0, 0, 0];
 
+// The trace ends before its peak does.
+const LATE: &[i32] = &[0, 0, 0, 20, 60, 100, 80, 60, 40];
+
 const PLAIN: &str =
     "bunch = 1\nslope_on = 5\nslope_off = 5\nplateau = 3\nfuse = 2\nmin_area = 1\nmin_height = 1\nweight = \"equal\"\nrules = 1\n";
 
@@ -30,6 +33,14 @@ const MIDDLE: &str =
 
 const TALL: &str =
     "bunch = 1\nslope_on = 5\nslope_off = 5\nplateau = 3\nfuse = 2\nmin_area = 1\nmin_height = 61\nweight = \"equal\"\nrules = 1\n";
+
+const FORCED_FROM_2_TO_7: &str =
+    "bunch = 1\nslope_on = 5\nslope_off = 5\nplateau = 3\nfuse = 2\nmin_area = 1\nmin_height = 1\nweight = \"equal\"\nrules = 1
+[[event]]\nkind = \"baseline\"\nfrom_ms = 2000\nto_ms = 7000\n";
+
+const FORCED_FROM_6_TO_9: &str =
+    "bunch = 1\nslope_on = 5\nslope_off = 5\nplateau = 3\nfuse = 2\nmin_area = 1\nmin_height = 1\nweight = \"equal\"\nrules = 1
+[[event]]\nkind = \"baseline\"\nfrom_ms = 6000\nto_ms = 9000\n";
 
 const EARLY_LATE: &str =
     "bunch = 1\nslope_on = 5\nslope_off = 5\nplateau = 3\nfuse = 2\nmin_area = 1\nmin_height = 1\nweight = \"equal\"\nrules = 1
@@ -116,6 +127,45 @@ const RIDER: Wanted = Wanted {
     component: None,
 };
 
+// The first of the two fused peaks, over the straight line from its start to the valley.
+const BENT_FIRST: Wanted = Wanted {
+    range: (1, 5, 7),
+    line: (1, 7),
+    rider: false,
+    area: 100,
+    height: (140, 3),
+    half: Some((3_750_000, 6_000_000)),
+    twentieth: Some((2_850_000, 6_900_000)),
+    valley: None,
+    component: None,
+};
+
+// The second one, over the straight line from the valley to its end.
+const BENT_SECOND: Wanted = Wanted {
+    range: (7, 9, 12),
+    line: (7, 12),
+    rider: false,
+    area: 110,
+    height: (48, 1),
+    half: Some((8_000_000, 10_307_692)),
+    twentieth: Some((7_100_000, 11_600_000)),
+    valley: None,
+    component: None,
+};
+
+// The one peak over a baseline that is forced from sample 2 to sample 7.
+const FORCED: Wanted = Wanted {
+    range: (2, 5, 7),
+    line: (2, 7),
+    rider: false,
+    area: 130,
+    height: (54, 1),
+    half: Some((3_678_571, 6_156_250)),
+    twentieth: Some((2_337_500, 6_915_625)),
+    valley: None,
+    component: None,
+};
+
 const DEEP_FIRST: Wanted = Wanted {
     range: (1, 5, 7),
     line: (1, 7),
@@ -140,7 +190,7 @@ const DEEP_SECOND: Wanted = Wanted {
     component: None,
 };
 
-const ROWS: [Row; 20] = [
+const ROWS: [Row; 27] = [
     ("one peak", ONE, PLAIN, &[], &[PEAK]),
     ("two fused peaks", TWO, PLAIN, &[], &[FIRST, SECOND]),
     (
@@ -151,30 +201,7 @@ const ROWS: [Row; 20] = [
             from: 7000,
             to: 7001,
         }],
-        &[
-            Wanted {
-                range: (1, 5, 7),
-                line: (1, 7),
-                rider: false,
-                area: 100,
-                height: (140, 3),
-                half: Some((3_750_000, 6_000_000)),
-                twentieth: Some((2_850_000, 6_900_000)),
-                valley: None,
-                component: None,
-            },
-            Wanted {
-                range: (7, 9, 12),
-                line: (7, 12),
-                rider: false,
-                area: 110,
-                height: (48, 1),
-                half: Some((8_000_000, 10_307_692)),
-                twentieth: Some((7_100_000, 11_600_000)),
-                valley: None,
-                component: None,
-            },
-        ],
+        &[BENT_FIRST, BENT_SECOND],
     ),
     (
         "a skim event takes the rider out of its parent",
@@ -236,7 +263,7 @@ const ROWS: [Row; 20] = [
     ),
     (
         "a peak that ends with the trace",
-        &[0, 0, 0, 20, 60, 100, 80, 60, 40],
+        LATE,
         PLAIN,
         &[],
         &[Wanted {
@@ -403,14 +430,126 @@ const ROWS: [Row; 20] = [
             from: 2000,
             to: 7000,
         }],
+        &[FORCED],
+    ),
+    (
+        "a forced baseline that overlaps an earlier one has no effect",
+        ONE,
+        PLAIN,
+        &[
+            Event::Baseline {
+                from: 2000,
+                to: 7000,
+            },
+            Event::Baseline {
+                from: 6000,
+                to: 9000,
+            },
+        ],
+        &[FORCED],
+    ),
+    // The two share sample 7 alone, so both have effect. No apex lies in the second, so it has no part, and it changes
+    // no end, since the one raw peak belongs to the first.
+    (
+        "a forced baseline in which no apex lies has no part",
+        ONE,
+        PLAIN,
+        &[
+            Event::Baseline {
+                from: 2000,
+                to: 7000,
+            },
+            Event::Baseline {
+                from: 7000,
+                to: 9000,
+            },
+        ],
+        &[FORCED],
+    ),
+    // The second line falls from 20 at sample 7 to 0 at sample 14: 160 under the signal, less 70 under the line. At the
+    // samples 7 to 11 the heights are 0, 160 / 7, 320 / 7, 200 / 7 and 10 / 7.
+    (
+        "of two forced baselines that share an end both have effect",
+        TWO,
+        PLAIN,
+        &[
+            Event::Baseline {
+                from: 1000,
+                to: 7000,
+            },
+            Event::Baseline {
+                from: 7000,
+                to: 14000,
+            },
+        ],
+        &[
+            BENT_FIRST,
+            Wanted {
+                range: (7, 9, 14),
+                line: (7, 14),
+                rider: false,
+                area: 90,
+                height: (320, 7),
+                half: Some((8_000_000, 10_210_526)),
+                twentieth: Some((7_100_000, 10_968_421)),
+                valley: None,
+                component: None,
+            },
+        ],
+    ),
+    // The second event has no effect, so the second raw peak is outside of forced baselines, a cluster of its own.
+    (
+        "of two that share more than an end the first has effect",
+        TWO,
+        PLAIN,
+        &[
+            Event::Baseline {
+                from: 1000,
+                to: 7000,
+            },
+            Event::Baseline {
+                from: 6000,
+                to: 14000,
+            },
+        ],
+        &[BENT_FIRST, BENT_SECOND],
+    ),
+    (
+        "a forced baseline of the method",
+        ONE,
+        FORCED_FROM_2_TO_7,
+        &[],
+        &[FORCED],
+    ),
+    (
+        "a forced baseline of the method stands before the row's own",
+        ONE,
+        FORCED_FROM_2_TO_7,
+        &[Event::Baseline {
+            from: 6000,
+            to: 9000,
+        }],
+        &[FORCED],
+    ),
+    // The method's event has effect alone: it lowers the end of the raw peak from 8 to 6, where the signal is 40. The
+    // line rises from 0 at sample 1 to 40 at sample 6: 130 under the signal, less 100 under the line. At the samples 3
+    // to 6 the heights are -6, 16, 28 and 0.
+    (
+        "also before one of the row that begins earlier",
+        ONE,
+        FORCED_FROM_6_TO_9,
+        &[Event::Baseline {
+            from: 2000,
+            to: 7000,
+        }],
         &[Wanted {
-            range: (2, 5, 7),
-            line: (2, 7),
+            range: (1, 5, 6),
+            line: (1, 6),
             rider: false,
-            area: 130,
-            height: (54, 1),
-            half: Some((3_678_571, 6_156_250)),
-            twentieth: Some((2_337_500, 6_915_625)),
+            area: 30,
+            height: (28, 1),
+            half: Some((3_909_090, 5_500_000)),
+            twentieth: Some((3_336_363, 5_950_000)),
             valley: None,
             component: None,
         }],
@@ -508,6 +647,17 @@ fn rows_are_those_worked_out_by_hand(rt: HostRuntime) -> Result<(), Fail> {
             );
             assert!(rt; is_measured(peak, want), "{shows}");
         }
+    }
+    Ok(())
+}
+
+#[test]
+fn a_height_is_shown_rounded_down(rt: HostRuntime) -> Result<(), Fail> {
+    for (samples, shown) in [(ONE, 60), (LATE, 77)] {
+        let got = row_of(rt.alloc(), samples, PLAIN.as_bytes(), &[])?;
+        let peak = got.peaks().first().ok_or("there is no peak")?;
+        let height = peak.height.num.checked_div(i128::from(peak.height.den));
+        assert_eq!(rt; height, Some(shown));
     }
     Ok(())
 }

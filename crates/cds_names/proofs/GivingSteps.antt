@@ -1,12 +1,12 @@
 -- Going through the pairs in their order leaves the naming that none blocks.
-use Rattle.std.proofs.Common.{◌≡◌, ◌≢◌, ℕ, zero, suc, ◌+◌, ◌<◌, ◌≤◌, ◌⊎◌, ◌↔◌, inl, inr, Bool, true, false, not, ◌&&◌, cond, is_none, List, length, get_or, set, replicate, take, drop, ◌++◌, Option, Some, None, Contains, refl, sym, ap, ap₂, ◌∙◌, subst, arith, get_or-set_same, get_or-set_other}
+use Rattle.std.proofs.Common.{◌≡◌, ◌≢◌, ℕ, zero, suc, ◌+◌, ◌^◌, ◌<◌, ◌≤◌, ◌⊎◌, ◌↔◌, inl, inr, Bool, true, false, not, ◌&&◌, cond, is_none, List, length, get_or, set, replicate, take, drop, ◌++◌, Option, Some, None, Contains, refl, sym, ap, ap₂, ◌∙◌, subst, arith, get_or-set_same, get_or-set_other}
 use Rattle.std.proofs.lemmas.Bool.{cases_lt, cases_eq, false≢true}
 use Rattle.std.proofs.Math.Seq.{take-append_seam}
 use Rattle.std.proofs.lemmas.List.Elements.{Contains-get_or}
 use Rattle.std.proofs.lemmas.Option.{slice_get_within}
 use Rattle.cds_base.specs.declared.Window.{Window}
 use Rattle.cds_names.specs.declared.wanted.Wanted.{Wanted}
-use Rattle.cds_names.specs.Naming.{IsWanted, IsBefore, peak_of, HasPair, IsUnblocked}
+use Rattle.cds_names.specs.Naming.{IsWanted, IsBefore, peak_of, IsNumbered, HasPair, IsNaming, IsUnblocked}
 use Rattle.cds_names.specs.Wanting.{IsInOrder}
 use Rattle.cds_names.specs.Giving.{peaks_with, taken_with}
 use Rattle.cds_names.proofs.Wants.{same_default}
@@ -206,6 +206,16 @@ IsUnblocked-given windows apexes pairs peaks taken listed ordered one_each given
             | inr peak ↦ blocks.peak_would other other_wanted found.1.1.0 (peak ∙ ap (λ (r : Wanted). r.peak) here)
           ] in
           ordered m j no_pair le within (subst (λ r. IsBefore r other) (sym here) later);
+    }
+
+-- the numbers of components and peaks stay below 2^32 where there are fewer of each
+pub IsNumbered-naming : (windows : List Window) (apexes : List ℕ) (naming : List (Option ℕ)) → length windows < 2 ^ 32 → length apexes < 2 ^ 32 → IsNaming windows apexes naming → IsNumbered naming
+IsNumbered-naming windows apexes naming few_windows few_apexes is =
+    record {
+      few = omega (arith, is.one_entry_each);
+      numbers = λ c p has.
+          let wanted = is.wanted c p has in
+          omega (arith, slice_get_within apexes p wanted.1.apex wanted.1.peak_is);
     }
 
 -- both sides of a listed pair are there

@@ -65,14 +65,14 @@ has_or_not naming p = option_cases (peak_of naming p.component) p.peak
 
 module _ (windows : List Window) (apexes : List ℕ) where
   -- a place for each wanted pair
-  place : Wanted → ℕ
+  pub place : Wanted → ℕ
   place p = rank (length windows) (length apexes) p
 
   -- the two namings have the same earlier pairs
   abbrev AgreeBefore : (xs ys : List (Option ℕ)) → ℕ → Type 0
   AgreeBefore xs ys k = (p : Wanted) → IsWanted windows apexes p → place p < k → HasPair xs p → HasPair ys p
 
-  place_lt : (p q : Wanted) → IsWanted windows apexes p → IsBefore p q → place p < place q
+  pub place_lt : (p q : Wanted) → IsWanted windows apexes p → IsBefore p q → place p < place q
   unfolding place
   place_lt p q wanted first = rank_lt (length windows) (length apexes) p q (slice_get_within windows p.component wanted.window wanted.component_is) (slice_get_within apexes p.peak wanted.apex wanted.peak_is) first
 

@@ -1,5 +1,6 @@
--- Which peak each component of a method names. Components and peaks are known by their places, from 0.
-use Rattle.std.specs.Prelude.{◌≡◌, ℕ, ◌<◌, ◌≤◌, ◌⊎◌, List, length, Option, Some, None, slice_get, slice_index_or}
+-- Which peak each component of a method names. A naming knows components and peaks by their places, from 0; their
+-- numbers are counted from 1. This project's own rule.
+use Rattle.std.specs.Prelude.{◌≡◌, ℕ, ◌+◌, ◌-◌, ◌^◌, ◌<◌, ◌≤◌, ◌⊎◌, ◌==◌, List, length, Option, Some, None, option_map, slice_get, slice_index_or, if◌then◌else◌}
 use Rattle.std.specs.Int.{abs_diff}
 use Rattle.cds_base.specs.declared.Window.{Window}
 use Rattle.cds_names.specs.declared.wanted.Wanted.{Wanted}
@@ -24,6 +25,19 @@ IsBefore p q =
 -- the peak that a naming gives a component, where it gives one
 abbrev pub peak_of : List (Option ℕ) → ℕ → Option ℕ
 peak_of naming component = slice_index_or naming component None
+
+-- the number of the peak that a naming gives the component at a place, where it gives one
+abbrev pub number_at : List (Option ℕ) → ℕ → Option ℕ
+number_at naming place = option_map (λ peak. peak + 1) (peak_of naming place)
+
+-- the number of the peak that a naming gives the component of a number, where it gives one; no component has the number 0
+abbrev pub number_of : List (Option ℕ) → ℕ → Option ℕ
+number_of naming number = if number == 0 then None else number_at naming (number - 1)
+
+-- components and peaks have numbers below 2^32
+pub record IsNumbered (naming : List (Option ℕ)) : Type 0 where
+  pub few : length naming < 2 ^ 32
+  pub numbers : (c p : ℕ) → peak_of naming c ≡ Some p → p + 1 < 2 ^ 32
 
 -- the naming has the pair
 abbrev pub HasPair : List (Option ℕ) → Wanted → Type 0

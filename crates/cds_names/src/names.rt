@@ -1,5 +1,5 @@
 ghost use Rattle.std.specs.Prelude.{◌≡◌, ◌<◌, ◌^◌, length, IfOk};
-ghost use Rattle.cds_names.specs.Naming.{IsUnblocked, IsOnlyUnblocked, peak_of};
+ghost use Rattle.cds_names.specs.Naming.{IsUnblocked, IsOnlyUnblocked, number_at, number_of};
 ghost use Rattle.cds_names.specs.Giving.{peaks_with, taken_with};
 
 use crate::wanted::{Wanted, wanted_pairs};
@@ -7,8 +7,8 @@ use cds_base::{NoMemory, Window};
 use std::alloc::Global;
 use std::marker::Model;
 
-/// Which peak each component names. Components and peaks are known by their places, from 0. Seen as the list of
-/// the components' peaks.
+/// Which peak each component names. Seen as the list of the components' peaks, which are known by their places, from
+/// 0. It answers by numbers, counted from 1. There are fewer than 2^32 components, and as many peaks at most.
 #[derive(Debug, Drop)]
 pub struct Names {
     peaks: Vec<Option<u32>>,
@@ -16,18 +16,43 @@ pub struct Names {
 
 impl Model for Names {
     ghost use Rattle.std.specs.Prelude.{List, Option, ℕ};
+    ghost use Rattle.cds_names.specs.Naming.{IsNumbered};
 
     ghost Value = { List (Option ℕ) };
 
     ghost view = { λ n. n.peaks.items };
+
+    ghost invariant = { λ n. IsNumbered n.peaks.items };
 }
 
 impl Names {
-    /// The place of the peak that the component names. None where it names none, and past the last component.
-    pub fn of(&self, component: u32) -> Option<u32>
-        ensures { result ≡ peak_of self.now component }
+    /// The number of components.
+    pub fn len(&self) -> u32
+        ensures { result ≡ length self.now }
     {
-        self.peaks.get(component as usize).copied().unwrap_or(None)
+        self.peaks.len() as u32
+    }
+
+    /// The number, counted from 1, of the peak that the component at place `i` names, where places are counted from
+    /// 0. None where it names none, and past the last component.
+    pub fn get(&self, i: u32) -> Option<u32>
+        ensures { result ≡ number_at self.now i }
+    {
+        match self.peaks.get(i as usize) {
+            Some(Some(place)) => Some(*place + 1),
+            _ => None,
+        }
+    }
+
+    /// The number, counted from 1, of the peak that the component of the number `component` names, counted from 1
+    /// too. None for 0, where the component names none, and past the last component.
+    pub fn of(&self, component: u32) -> Option<u32>
+        ensures { result ≡ number_of self.now component }
+    {
+        if component == 0 {
+            return None;
+        }
+        self.get(component - 1)
     }
 }
 

@@ -22,21 +22,26 @@ fn components_name_the_nearest_peaks_that_no_nearer_pair_takes(
     let ties = [window(7000, 2000), window(7000, 2000), window(7000, 2000)];
     let far = [window(20_000, 1), window(5000, 0)];
     let rows: [(&[Window], &[u64], &[Option<u32>]); 7] = [
-        (&a_and_c, &one_peak, &[Some(0), None]),
-        (&k, &two_peaks, &[Some(0)]),
-        (&k_and_l, &two_peaks, &[Some(1), Some(0)]),
-        (&ties, &two_peaks, &[Some(0), Some(1), None]),
-        (&far, &two_peaks, &[None, Some(0)]),
+        (&a_and_c, &one_peak, &[Some(1), None]),
+        (&k, &two_peaks, &[Some(1)]),
+        (&k_and_l, &two_peaks, &[Some(2), Some(1)]),
+        (&ties, &two_peaks, &[Some(1), Some(2), None]),
+        (&far, &two_peaks, &[None, Some(1)]),
         (&far, &[], &[None, None]),
-        (&[], &two_peaks, &[None]),
+        (&[], &two_peaks, &[]),
     ];
     for (windows, apexes, wanted) in rows {
         assert!(rt; windows.len() < 10 && apexes.len() < 10);
         let names = name_peaks(rt.alloc(), windows, apexes)?;
-        for (component, peak) in wanted.iter().enumerate() {
-            assert!(rt; component < 10);
-            assert_eq!(rt; names.of(component as u32), *peak);
+        assert_eq!(rt; names.len() as usize, wanted.len());
+        for (place, peak) in wanted.iter().enumerate() {
+            assert!(rt; place < 10);
+            assert_eq!(rt; names.get(place as u32), *peak);
+            assert_eq!(rt; names.of(place as u32 + 1), *peak);
         }
+        assert_eq!(rt; names.of(0), None);
+        assert_eq!(rt; names.of(names.len().saturating_add(1)), None);
+        assert_eq!(rt; names.get(names.len()), None);
         assert_eq!(rt; names.of(4_294_967_295), None);
     }
     Ok(())

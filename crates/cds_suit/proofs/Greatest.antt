@@ -3,9 +3,11 @@ use Rattle.std.proofs.Common.{◌≡◌, ℕ, zero, suc, ◌+◌, ◌-◌, ◌*�
 use Rattle.std.specs.List.{sum}
 use Rattle.std.proofs.Math.Nat.{mul-le-mul}
 use Rattle.std.proofs.lemmas.Bool.{cases_lt, le-leb, lt-leb}
+use Rattle.cds_base.specs.Search.{greatest}
+use Rattle.cds_base.proofs.SearchLaws.{greatest-is}
 use Rattle.cds_base.specs.declared.peak.Missing.TheVariants.{TooFew, ZeroSum}
 use Rattle.cds_suit.specs.declared.square.Square.{Square}
-use Rattle.cds_suit.specs.Deviation.{if_deviates, greatest}
+use Rattle.cds_suit.specs.Deviation.{if_deviates}
 use Rattle.cds_suit.specs.Square.{reaches, IsSquare}
 
 -- low is reached, and nothing from above on
@@ -37,18 +39,6 @@ missed_next s low above is near =
 pub last-end : (s : Square) (low above : ℕ) → Between s low above → above - low ≤ 1 → (k : ℕ) → k * k * s.level ≤ s.spread * 100000000 → k ≤ low
 last-end s low above is near k here =
     elim (cases_lt low k) [ inl lt ↦ absurd (let past = beyond s low k (missed_next s low above is near) lt in omega arith) | inr ge ↦ ge ]
-
--- the greatest number that passes is the one above which none does
-greatest-is : (test : ℕ → Bool) (n low : ℕ) → low ≤ n → test low ≡ true → ((k : ℕ) → low < k → k ≤ n → test k ≡ false) → greatest test n ≡ low
-unfolding greatest
-greatest-is test zero low le here above = omega arith
-greatest-is test (suc n) low le here above =
-    elim (cases_lt low (suc n)) [
-      | inl lt ↦ ap (λ b. cond b (suc n) (greatest test n)) (above (suc n) lt (omega arith)) ∙ greatest-is test n low (omega arith) here (λ k p q. above k p (omega arith))
-      | inr ge ↦
-          let same : low ≡ suc n = omega arith in
-          ap (λ b. cond b (suc n) (greatest test n)) (subst (λ k. test k ≡ true) same here) ∙ sym same
-    ]
 
 pub greatest-end : (s : Square) (low above : ℕ) → Between s low above → above - low ≤ 1 → low ≡ greatest (reaches s) 80000
 greatest-end s low above is near =

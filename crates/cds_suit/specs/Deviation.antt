@@ -1,7 +1,8 @@
 -- The relative standard deviation of n values, which is the standard deviation s over the mean. With plain sums
 -- s^2 = (n Sxx - Sx^2) / (n (n - 1)) and the mean is Sx / n, so its square is n (n Sxx - Sx^2) / ((n - 1) Sx^2).
 -- It is compared as a product, and never divided or rounded. After USP General Chapter 621, in this project's form.
-use Rattle.std.specs.Prelude.{ℕ, zero, suc, ◌-◌, ◌*◌, ◌≤◌, nat_lt, nat_le, Bool, cond, if◌then◌else◌, List, length, sum, sum_by, Result, Ok, Err}
+use Rattle.std.specs.Prelude.{ℕ, ◌-◌, ◌*◌, ◌≤◌, nat_lt, nat_le, Bool, if◌then◌else◌, List, length, sum, sum_by, Result, Ok, Err}
+use Rattle.cds_base.specs.Search.{greatest}
 use Rattle.cds_base.specs.declared.peak.Missing.{Missing}
 use Rattle.cds_base.specs.declared.peak.Missing.TheVariants.{TooFew, ZeroSum}
 
@@ -32,11 +33,6 @@ if_deviates values a = if nat_lt (length values) 2 then Err TooFew else (if nat_
 -- whether the deviation is at most q hundredths of a percent
 abbrev pub at_most_of : List ℕ → ℕ → Result Bool Missing
 at_most_of values q = if_deviates values (is_at_most values q)
-
--- the greatest of the numbers 0 to n that passes the test, 0 where none does
-unfoldable pub greatest : (ℕ → Bool) → ℕ → ℕ
-greatest test zero = zero
-greatest test (suc n) = cond (test (suc n)) (suc n) (greatest test n)
 
 -- the greatest q of 0 to 80000 such that the deviation is at least q hundredths of a percent
 abbrev pub floor_of : List ℕ → Result ℕ Missing

@@ -1,6 +1,7 @@
 ghost use Rattle.std.specs.Prelude.{◌≡◌, ℕ, ◌+◌, ◌*◌, ◌^◌, ◌<◌, ◌≤◌, nat_le, length, sum, All, IfOk};
 ghost use Rattle.std.specs.Ordering.{nat_cmp};
-ghost use Rattle.cds_suit.specs.Deviation.{sum_of_squares, if_deviates, greatest};
+ghost use Rattle.cds_base.specs.Search.{greatest};
+ghost use Rattle.cds_suit.specs.Deviation.{sum_of_squares, if_deviates};
 ghost use Rattle.cds_suit.specs.Square.{square_of, reaches, IsSquare};
 
 use cds_base::Missing;

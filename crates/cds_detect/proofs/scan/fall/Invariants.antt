@@ -1,5 +1,5 @@
 use Rattle.std.proofs.Common.{◌≡◌, ◌+◌, ◌-◌, ◌*◌, ◌≤◌, length}
-use Rattle.cds_detect.specs.Least.{least}
+use Rattle.cds_base.specs.Search.{least}
 use Rattle.cds_detect.specs.Classes.{classes}
 use Rattle.cds_detect.specs.Settings.{settings_of}
 use Rattle.cds_detect.specs.Spans.{ends_fall, fall}

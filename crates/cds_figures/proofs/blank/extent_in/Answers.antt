@@ -18,12 +18,14 @@ loop-i-preserved g c =
           let wide = rw w.at.ensures.value at (simp to_z-of_z at (w.widened.ensures (samples_in signal c.args.from_ms c.args.to_ms c.loop-i.i) c.loop-i.invariant.extent)) in
           record {
             extent = rw (w.extent-is, more) wide;
+            least = rw w.steps-is (omega (arith, w.at.ensures.counted));
             counted = rw w.steps-is (omega (arith, w.at.ensures.counted));
           }
       | else-is_in_window w ↦
           let more = samples-skip signal c.args.from_ms c.args.to_ms c.loop-i.i (sym test ∙ w.if-is_in_window.false) in
           record {
             extent = rw (w.extent-is, more) c.loop-i.invariant.extent;
+            least = rw w.steps-is (omega arith);
             counted = rw w.steps-is (omega arith);
           }
     ]

@@ -5,5 +5,6 @@ use Rattle.cds_figures.proofs.blank.extent_in.Given as goal
 abbrev pub invariant-loop-i : goal.invariant-loop-i
 invariant-loop-i g l = record {
   extent : l.extent ≡ extent_of (samples_in l.trace l.from_ms l.to_ms l.i);
+  least : l.fn.steps ≤ l.steps;
   counted : l.steps ≤ l.fn.steps + l.i;
 }

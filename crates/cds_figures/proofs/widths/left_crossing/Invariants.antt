@@ -12,6 +12,3 @@ invariant-loop-i g l = record {
   least : l.fn.steps ≤ l.steps;
   counted : l.steps + l.i ≤ l.fn.steps + l.apex;
 }
-
-abbrev pub decreases-loop-i : goal.decreases-loop-i
-decreases-loop-i g l = l.i - l.start

@@ -23,12 +23,12 @@ loop-place-preserved g c =
     let kept = c.loop-place.invariant in
     let below : place < length found = c.loop-place-test.true in
     let pushed : c.push.new.self.items ≡ c.loop-place.peaks.items ++ c.peak_of.result ∷ [] = search rules in
-    let component : c.component_of-component.result ≡ component_of naming place = search rules in
-    let at : 0 + length (take place found) ≡ place = omega (arith, length-take-le place found (omega (arith, below))) in
-    let is : IsPeak signal method (component_of naming (0 + length (take place found))) (get_or found place no_found) c.peak_of.result =
+    let component : c.component_of-component.result ≡ component_of naming (place + 1) = search rules in
+    let at : 1 + length (take place found) ≡ place + 1 = omega (arith, length-take-le place found (omega (arith, below))) in
+    let is : IsPeak signal method (component_of naming (1 + length (take place found))) (get_or found place no_found) c.peak_of.result =
     rw (at, sym component) c.peak_of.ensures.value in
     record {
-      peaks = rw (pushed, take_more found place no_found below) (peaks-on signal method naming 0 (take place found) c.loop-place.peaks.items (get_or found place no_found) c.peak_of.result kept.peaks is);
+      peaks = rw (pushed, take_more found place no_found below) (peaks-on signal method naming 1 (take place found) c.loop-place.peaks.items (get_or found place no_found) c.peak_of.result kept.peaks is);
       sound = rw pushed (All-append IsSound c.loop-place.peaks.items (c.peak_of.result ∷ []) kept.sound (one-all IsSound c.peak_of.result c.peak_of.ensures.sound));
       stand = rw pushed (All-append (StandsIn signal) c.loop-place.peaks.items (c.peak_of.result ∷ []) kept.stand (one-all (StandsIn signal) c.peak_of.result c.peak_of.ensures.stands));
       least = omega (arith, kept.least, c.peak_of.ensures.least);

@@ -1,4 +1,4 @@
-use Rattle.std.proofs.Common.{All, subst, ◌≡◌, List, map, length, ◌∙◌, ap, arith}
+use Rattle.std.proofs.Common.{◌≡◌, List, map, length, ◌∙◌, ap, arith}
 use Rattle.std.specs.List.{flat_map}
 use Rattle.cds_base.specs.declared.cluster.Cluster.{Cluster}
 use Rattle.cds_base.specs.declared.event.Event.{Event}
@@ -6,9 +6,7 @@ use Rattle.cds_base.specs.declared.peak.RawPeak.{RawPeak}
 use Rattle.cds_events.specs.Arrangement.{gap_of, clusters_of}
 use Rattle.cds_integrate.specs.Row.{events_of, found_in, found_of, windows_of, apex_time}
 use Rattle.cds_integrate.specs.declared.found.Found.{Found}
-use Rattle.cds_integrate.specs.Sums.{ConservesIn}
 use Rattle.cds_integrate.proofs.FoundLaws.{found-count}
-use Rattle.cds_integrate.proofs.SumLaws.{clusters-conserved}
 use Rattle.cds_integrate.proofs.rows.peaks_from.Goals as goal
 
 pub returns-clause-value : goal.returns-clause-value
@@ -41,13 +39,3 @@ peaks_of-requires-clause-few g c =
     let many = found-count c.args.trace.now c.args.method.now c.in_ok-parts.parts.items c.in_ok-parts.ensures.kept in
     let size : length c.as_slice-found.result.now ≡ length c.in_ok-parts.parts.items = ap length c.as_slice-found.ensures.value in
     omega (arith, many, size, c.in_ok-parts.ensures.wide, c.len-samples.ensures.trace.few)
-
-pub returns-clause-conserved : goal.returns-clause-conserved
-returns-clause-conserved g c =
-    let signal = c.args.trace.now in
-    let method = c.args.method.now in
-    let manual : List Event = c.args.manual.now in
-    let arranged : List RawPeak → List Cluster = clusters_of signal (gap_of method) (events_of method manual) in
-    let clusters = c.in_ok-arranged.ensures.value ∙ ap arranged c.requires.raw in
-    subst (λ (cs : List Cluster). All (ConservesIn signal (events_of method manual)) cs) clusters
-    (clusters-conserved signal (events_of method manual) 0 _ c.len-samples.ensures.trace c.in_ok-arranged.ensures.stand)

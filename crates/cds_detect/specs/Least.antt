@@ -1,8 +1,0 @@
--- The least number of a range that passes a test.
-use Rattle.std.specs.Prelude.{ℕ, ◌-◌, Bool}
-use Rattle.std.specs.List.{range_with_len, find}
-use Rattle.std.specs.Option.{unwrap_or}
-
--- the least number from `from` on that passes the test, or `end` where none below `end` does
-unfoldable pub least : (ℕ → Bool) → ℕ → ℕ → ℕ
-least test from end = unwrap_or (find test (range_with_len from (end - from))) end
