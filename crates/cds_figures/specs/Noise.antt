@@ -1,5 +1,5 @@
 -- The noise of a blank: the greatest minus the least of its samples in a window of time. This project's own rule.
-use Rattle.std.specs.Prelude.{ℕ, ◌*◌, ◌-ℤ◌, ◌&&◌, ◌==◌, Bool, ℤ, List, [], ◌∷◌, Option, Some, None, map, fold, length, nat_le, nat_lt, unsigned_abs, if◌then◌else◌}
+use Rattle.std.specs.Prelude.{ℕ, ◌*◌, ◌-ℤ◌, ◌==◌, ℤ, List, [], ◌∷◌, Option, Some, None, map, fold, length, nat_lt, unsigned_abs, if◌then◌else◌}
 use Rattle.std.specs.Int.{int_min, int_max}
 use Rattle.std.specs.List.{range_with_len, filter}
 use Rattle.cds_base.specs.EventTime.{is_in_window}

@@ -1,5 +1,5 @@
 -- There is a naming that no wanted pair blocks.
-use Rattle.std.proofs.Common.{◌≡◌, ℕ, zero, suc, ◌+◌, ◌<◌, ◌≤◌, Bool, true, false, cond, List, length, replicate, set, Option, Some, None, refl, ◌∙◌, subst, arith}
+use Rattle.std.proofs.Common.{◌≡◌, ℕ, zero, suc, ◌+◌, ◌≤◌, Bool, true, false, cond, List, length, replicate, set, Option, Some, None, refl, ◌∙◌, subst, arith}
 use Rattle.std.proofs.lemmas.List.{length-replicate, length-set}
 use Rattle.cds_base.specs.declared.Window.{Window}
 use Rattle.cds_names.specs.Naming.{IsUnblocked, IsOnlyUnblocked}

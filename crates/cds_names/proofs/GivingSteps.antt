@@ -208,6 +208,15 @@ IsUnblocked-given windows apexes pairs peaks taken listed ordered one_each given
           ordered m j no_pair le within (subst (λ r. IsBefore r other) (sym here) later);
     }
 
+-- the same where the pairs were counted up to n, and read from another list that is the same
+pub IsUnblocked-counted : (windows : List Window) (apexes : List ℕ) (sorted pairs : List Wanted) (n : ℕ) (peaks : List (Option ℕ)) (taken : List Bool) → pairs ≡ sorted → n ≡ length pairs → ((p : Wanted) → Contains sorted p ↔ IsWanted windows apexes p) → IsInOrder sorted → length peaks ≡ length windows → Given pairs n peaks taken → IsUnblocked windows apexes peaks
+IsUnblocked-counted windows apexes sorted pairs n peaks taken same all listed ordered one_each given =
+    IsUnblocked-given windows apexes pairs peaks taken
+    (subst (λ ps. (p : Wanted) → Contains ps p ↔ IsWanted windows apexes p) (sym same) listed)
+    (subst IsInOrder (sym same) ordered)
+    one_each
+    (subst (λ k. Given pairs k peaks taken) all given)
+
 -- the numbers of components and peaks stay below 2^32 where there are fewer of each
 pub IsNumbered-naming : (windows : List Window) (apexes : List ℕ) (naming : List (Option ℕ)) → length windows < 2 ^ 32 → length apexes < 2 ^ 32 → IsNaming windows apexes naming → IsNumbered naming
 IsNumbered-naming windows apexes naming few_windows few_apexes is =

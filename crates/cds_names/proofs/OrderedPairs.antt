@@ -1,8 +1,7 @@
 -- The wanted pairs of any windows and apexes can be listed in their order.
-use Rattle.std.proofs.Common.{◌≡◌, ℕ, zero, suc, ◌+◌, ◌<◌, ◌≤◌, ◌↔◌, ◌⊎◌, inl, inr, List, [], ◌∷◌, ◌++◌, length, get_or, map, Contains, refl, sym, ap, ◌∙◌, subst, arith}
+use Rattle.std.proofs.Common.{◌≡◌, ℕ, zero, suc, ◌+◌, ◌<◌, ◌≤◌, ◌↔◌, ◌⊎◌, inl, inr, List, [], ◌∷◌, ◌++◌, length, get_or, map, Contains, refl, sym, subst, arith}
 use Rattle.std.specs.Int.{abs_diff}
 use Rattle.std.specs.List.{range_with_len}
-use Rattle.std.specs.List.Sorted.{IsNonDecreasingBy, IsPermutation}
 use Rattle.std.proofs.lemmas.Bool.{cases_lt}
 use Rattle.std.proofs.lemmas.List.Elements.{Contains-get_or}
 use Rattle.std.proofs.lemmas.List.Sorted.{Contains-permutation, IsPermutation-sym}
@@ -10,7 +9,7 @@ use Rattle.std.proofs.lemmas.Option.{slice_get-get_or}
 use Rattle.cds_base.specs.declared.Window.{Window}
 use Rattle.cds_names.specs.declared.wanted.Wanted.{Wanted}
 use Rattle.cds_names.specs.declared.wanted.Apex.{Apex}
-use Rattle.cds_names.specs.Naming.{IsWanted, IsBefore}
+use Rattle.cds_names.specs.Naming.{IsWanted}
 use Rattle.cds_names.specs.Wanting.{IsInWindow, IsInOrder, pair_of}
 use Rattle.cds_names.proofs.Listing.{apex_at, Contains-listed}
 use Rattle.cds_names.proofs.OneNaming.{place, place_lt}

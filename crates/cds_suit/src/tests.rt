@@ -87,8 +87,12 @@ fn values_pass_at_their_limits(rt: HostRuntime) -> Result<(), Fail> {
     for (kind, num, den, limit, wanted) in cases {
         assert_eq!(rt; verdict(&rt, kind, num, den, limit), wanted);
     }
-    let missing = check(CheckKind::Tailing, Err(Missing::WidthCut), 150);
-    assert_eq!(rt; missing, Verdict::Undecided(Missing::WidthCut));
+    // a peak whose widths are cut has neither resolution nor tailing
+    let undecided = Verdict::Undecided(Missing::WidthCut);
+    let resolution = check(CheckKind::Resolution, Err(Missing::WidthCut), 100);
+    assert_eq!(rt; resolution, undecided);
+    let tailing = check(CheckKind::Tailing, Err(Missing::WidthCut), 150);
+    assert_eq!(rt; tailing, undecided);
     Ok(())
 }
 

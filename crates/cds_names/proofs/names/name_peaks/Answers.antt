@@ -2,9 +2,8 @@ use Rattle.std.proofs.Common.{◌≡◌, ◌↔◌, ◌+◌, length, replicate, 
 use Rattle.std.proofs.lemmas.List.{length-replicate}
 use Rattle.cds_names.specs.declared.wanted.Wanted.{Wanted}
 use Rattle.cds_names.specs.Naming.{IsWanted}
-use Rattle.cds_names.specs.Wanting.{IsInOrder}
 use Rattle.cds_names.specs.Giving.{peaks_with, taken_with}
-use Rattle.cds_names.proofs.GivingSteps.{Given, Given-none, Given-more, IsUnblocked-given, pair_at, pair_within, written_back, IsNumbered-naming}
+use Rattle.cds_names.proofs.GivingSteps.{Given, Given-none, Given-more, IsUnblocked-counted, pair_at, pair_within, written_back, IsNumbered-naming}
 use Rattle.cds_names.proofs.OneNaming.{same_naming}
 use Rattle.cds_names.proofs.names.name_peaks.Goals as goal
 
@@ -55,29 +54,14 @@ loop-pair-preserved c =
 
 pub returns-clause-unblocked : goal.returns-clause-unblocked
 returns-clause-unblocked c =
-    let pairs = c.deref-pair-items.result.now in
-    let listed = subst (λ ps. (q : Wanted) → Contains ps q ↔ IsWanted c.args.windows.now c.args.apexes.now q) (sym c.deref-pair-items.ensures.value) c.in_ok-pairs.ensures.pairs in
-    let ordered : IsInOrder pairs = subst IsInOrder (sym c.deref-pair-items.ensures.value) c.in_ok-pairs.ensures.in_order in
-    let all : c.loop-pair.pair-index ≡ length pairs = omega arith in
-    IsUnblocked-given c.args.windows.now c.args.apexes.now pairs c.loop-pair.peaks.items c.loop-pair.taken.items listed ordered c.loop-pair.invariant.one_each
-    (subst (λ n. Given pairs n c.loop-pair.peaks.items c.loop-pair.taken.items) all c.loop-pair.invariant.given)
+    IsUnblocked-counted c.args.windows.now c.args.apexes.now _ c.deref-pair-items.result.now c.loop-pair.pair-index c.loop-pair.peaks.items c.loop-pair.taken.items c.deref-pair-items.ensures.value (omega arith) c.in_ok-pairs.ensures.pairs c.in_ok-pairs.ensures.in_order c.loop-pair.invariant.one_each c.loop-pair.invariant.given
 
 pub returns-clause-only_one : goal.returns-clause-only_one
 returns-clause-only_one c other is =
-    let pairs = c.deref-pair-items.result.now in
-    let listed = subst (λ ps. (q : Wanted) → Contains ps q ↔ IsWanted c.args.windows.now c.args.apexes.now q) (sym c.deref-pair-items.ensures.value) c.in_ok-pairs.ensures.pairs in
-    let ordered : IsInOrder pairs = subst IsInOrder (sym c.deref-pair-items.ensures.value) c.in_ok-pairs.ensures.in_order in
-    let all : c.loop-pair.pair-index ≡ length pairs = omega arith in
     same_naming c.args.windows.now c.args.apexes.now other c.loop-pair.peaks.items is
-    (IsUnblocked-given c.args.windows.now c.args.apexes.now pairs c.loop-pair.peaks.items c.loop-pair.taken.items listed ordered c.loop-pair.invariant.one_each
-    (subst (λ n. Given pairs n c.loop-pair.peaks.items c.loop-pair.taken.items) all c.loop-pair.invariant.given))
+    (IsUnblocked-counted c.args.windows.now c.args.apexes.now _ c.deref-pair-items.result.now c.loop-pair.pair-index c.loop-pair.peaks.items c.loop-pair.taken.items c.deref-pair-items.ensures.value (omega arith) c.in_ok-pairs.ensures.pairs c.in_ok-pairs.ensures.in_order c.loop-pair.invariant.one_each c.loop-pair.invariant.given)
 
 pub invariant_of-result : goal.invariant_of-result
 invariant_of-result c =
-    let pairs = c.deref-pair-items.result.now in
-    let listed = subst (λ ps. (q : Wanted) → Contains ps q ↔ IsWanted c.args.windows.now c.args.apexes.now q) (sym c.deref-pair-items.ensures.value) c.in_ok-pairs.ensures.pairs in
-    let ordered : IsInOrder pairs = subst IsInOrder (sym c.deref-pair-items.ensures.value) c.in_ok-pairs.ensures.in_order in
-    let all : c.loop-pair.pair-index ≡ length pairs = omega arith in
-    let unblocked = IsUnblocked-given c.args.windows.now c.args.apexes.now pairs c.loop-pair.peaks.items c.loop-pair.taken.items listed ordered c.loop-pair.invariant.one_each
-    (subst (λ n. Given pairs n c.loop-pair.peaks.items c.loop-pair.taken.items) all c.loop-pair.invariant.given) in
+    let unblocked = IsUnblocked-counted c.args.windows.now c.args.apexes.now _ c.deref-pair-items.result.now c.loop-pair.pair-index c.loop-pair.peaks.items c.loop-pair.taken.items c.deref-pair-items.ensures.value (omega arith) c.in_ok-pairs.ensures.pairs c.in_ok-pairs.ensures.in_order c.loop-pair.invariant.one_each c.loop-pair.invariant.given in
     IsNumbered-naming c.args.windows.now c.args.apexes.now c.loop-pair.peaks.items c.requires.few_windows c.requires.few_apexes unblocked.is_naming
