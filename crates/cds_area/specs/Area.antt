@@ -1,10 +1,10 @@
 -- Heights and areas of a signal over a straight line. Both are fractions over a divisor that the line alone gives, so
 -- they are stated here as whole numbers, times that divisor. This project's own rules.
-use Rattle.std.specs.Prelude.{◌≡◌, ℕ, zero, suc, ◌+◌, ◌-◌, ◌*◌, ◌/◌, ℤ, pos, ◌+ℤ◌, ◌-ℤ◌, ◌*ℤ◌, nat_abs}
+use Rattle.std.specs.Prelude.{◌≡◌, ℕ, zero, suc, ◌+◌, ◌-◌, ◌*◌, ◌/◌, ℤ, pos, ◌+ℤ◌, ◌*ℤ◌, nat_abs}
 use Rattle.cds_base.specs.declared.peak.Line.{Line}
 use Rattle.cds_base.specs.declared.peak.Ratio.{Ratio}
 use Rattle.cds_trace.specs.Signal.{Signal}
-use Rattle.cds_trace.specs.Heights.{span, height_by_span}
+use Rattle.cds_trace.specs.Heights.{height_by_span}
 
 -- the fraction is the number num / den: their cross products agree
 abbrev pub IsRatio : Ratio → ℤ → ℕ → Type 0

@@ -1,6 +1,6 @@
 -- The slope thresholds that are in force at a time, and where no peak may be. Times are in microseconds from the
 -- start of the trace, those of events in milliseconds. This project's own rules.
-use Rattle.std.specs.Prelude.{ℕ, ◌*◌, ◌&&◌, Bool, false, List, [], ◌∷◌, Option, Some, None, nat_le, nat_lt, if◌then◌else◌}
+use Rattle.std.specs.Prelude.{ℕ, ◌*◌, Bool, false, List, [], ◌∷◌, Option, Some, None, nat_le, nat_lt, if◌then◌else◌}
 use Rattle.std.specs.List.{list_any}
 use Rattle.std.specs.Option.{unwrap_or}
 use Rattle.cds_base.specs.EventTime.{is_in_window}
