@@ -1,6 +1,6 @@
-ghost use Rattle.std.specs.Prelude.{◌≡◌, ℕ, ◌+◌, ◌<◌, ◌≤◌, List, [], Option, Some, option_map, get_or, IfOk, OnErr, IsErr, IfSome};
+ghost use Rattle.std.specs.Prelude.{◌≡◌, ℕ, ◌+◌, ◌<◌, ◌≤◌, [], Option, Some, option_map, get_or, IfOk, OnErr, IsErr, IfSome};
 ghost use Rattle.cds_base.specs.Faults.{Rose};
-ghost use Rattle.cds_base.specs.Door.{DoorState, Closed, opened_at, first_taken, with_closed, before_closing, closed_connection};
+ghost use Rattle.cds_base.specs.Door.{DoorState, opened_at, first_taken, with_closed, before_closing, closed_connection};
 
 use crate::failed::Failed;
 use crate::sink::Sink;

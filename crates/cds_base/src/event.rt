@@ -1,5 +1,4 @@
 ghost use Rattle.std.specs.Prelude.{◌≡◌};
-ghost use Rattle.std.specs.Vec.{vec_len};
 ghost use Rattle.cds_base.specs.EventTime.{is_in_window};
 
 use std::marker::Model;

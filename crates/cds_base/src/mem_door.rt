@@ -1,8 +1,8 @@
-ghost use Rattle.std.specs.Prelude.{◌≡◌, ℕ, ◌+◌, ◌-◌, ◌^◌, ◌<◌, ◌≤◌, ◌==◌, [], length, map, min, true, false, get_or, Option, Some, None, option_map, IfOk, IsOk, IsErr, OnErr, IfSome};
+ghost use Rattle.std.specs.Prelude.{◌≡◌, ◌+◌, ◌-◌, ◌^◌, ◌<◌, ◌≤◌, ◌==◌, [], length, map, min, true, false, get_or, Option, Some, None, option_map, IfOk, IsOk, IsErr, OnErr};
 ghost use Rattle.std.specs.List.{list_any};
 ghost use Rattle.std.specs.Result.{is_err};
 ghost use Rattle.cds_base.specs.Faults.{Rose};
-ghost use Rattle.cds_base.specs.Door.{opened_at, first_taken, with_closed, before_closing};
+ghost use Rattle.cds_base.specs.Door.{opened_at, first_taken};
 ghost use Rattle.cds_base.specs.MemDoor.{closed_pair, with_connection, IsUnused};
 
 use crate::door::Door;

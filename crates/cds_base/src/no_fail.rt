@@ -1,4 +1,4 @@
-ghost use Rattle.std.specs.Prelude.{◌≡◌, ◌^◌, [], length, IfOk, Some, None};
+ghost use Rattle.std.specs.Prelude.{◌≡◌, [], length, IfOk, Some, None};
 
 use crate::failed::Failed;
 use crate::sink::Sink;

@@ -1,4 +1,4 @@
-ghost use Rattle.std.specs.Prelude.{◌≡◌, ℕ, ◌+◌, ◌^◌, ◌<◌, ◌≤◌, List, [], ◌++◌, ◌-◌, length, take, drop, min, Option, Some, IfOk, OnErr, IfSome};
+ghost use Rattle.std.specs.Prelude.{◌≡◌, ℕ, ◌+◌, ◌^◌, ◌<◌, ◌≤◌, List, [], ◌++◌, ◌-◌, length, take, drop, min, Option, IfOk, OnErr, IfSome};
 ghost use Rattle.cds_base.specs.Faults.{Rose};
 ghost use Rattle.cds_base.specs.Told.{then_more, more_before};
 

@@ -1,4 +1,4 @@
-ghost use Rattle.std.specs.Prelude.{◌≡◌, true, [], ◌∷◌, ◌++◌, IfOk, length, if◌then◌else◌};
+ghost use Rattle.std.specs.Prelude.{◌≡◌, true, [], ◌∷◌, ◌++◌, IfOk, length};
 ghost use Rattle.cds_baseline.specs.Cluster.{is_valley, valleys, marks};
 
 use cds_base::{Boundary, NoMemory, Part};

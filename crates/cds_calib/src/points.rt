@@ -1,4 +1,4 @@
-ghost use Rattle.std.specs.Prelude.{◌≡◌, ◌*◌, ◌<◌, ◌≤◌, [], ◌↔◌, IsTrue, IfOk, length, insert, remove};
+ghost use Rattle.std.specs.Prelude.{◌≡◌, ◌<◌, ◌≤◌, [], ◌↔◌, IsTrue, IfOk, length, insert, remove};
 ghost use Rattle.cds_calib.specs.Points.{IsCalibration};
 ghost use Rattle.cds_calib.specs.Sums.{sums_of, IsSmall};
 

@@ -1,6 +1,6 @@
 //! Writing the record of a change.
-ghost use Rattle.std.specs.Prelude.{◌≡◌, ◌^◌, ◌<◌, ◌≤◌, ◌+◌, ◌++◌, length, IfOk};
-ghost use Rattle.std.specs.Int.{w32, to_be_bytes};
+ghost use Rattle.std.specs.Prelude.{◌≡◌, ◌^◌, ◌<◌, ◌≤◌, ◌+◌, length, IfOk};
+ghost use Rattle.std.specs.Int.{to_be_bytes};
 ghost use Rattle.cds_book.specs.Plan.{IsCommand, command_of};
 ghost use Rattle.cds_codec.specs.Record.{front, record_of, HasRecord};
 

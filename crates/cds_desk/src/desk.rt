@@ -1,5 +1,5 @@
 ghost use Rattle.cds_desk.specs.declared.desk.OpenError.TheVariants.{NoMemory};
-ghost use Rattle.std.specs.Prelude.{◌≡◌, ◌⊎◌, IfOk, OnErr, Err};
+ghost use Rattle.std.specs.Prelude.{◌≡◌, Err};
 ghost use Rattle.cds_desk.specs.Opening.{opened, OpensAs};
 
 use crate::routes::{Route, route_table};

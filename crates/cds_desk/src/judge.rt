@@ -2,7 +2,7 @@
 
 ghost use Rattle.std.specs.Prelude.{◌≡◌, IfOk, IfSome};
 ghost use Rattle.cds_book.specs.Plan.{planned, Accepts, IsCommand};
-ghost use Rattle.cds_desk.specs.Step.{answered, no_route, other_method, only, decided, judged_target, judged_method, judged_route};
+ghost use Rattle.cds_desk.specs.Step.{answered, other_method, only, decided, judged_target, judged_method, judged_route};
 
 use crate::methods::{freeze_draft, method_text, put_draft};
 use crate::refusals::{other_method, plan_reply};

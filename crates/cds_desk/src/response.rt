@@ -1,4 +1,4 @@
-ghost use Rattle.std.specs.Prelude.{◌≡◌, ◌++◌, length, codes, decimal, IfOk, OnOk};
+ghost use Rattle.std.specs.Prelude.{◌≡◌, ◌++◌, length, decimal, IfOk, OnOk};
 ghost use Rattle.cds_desk.specs.Response.{phrase, media_type, close_field, field_line, status_line, body_fields, head_text, response_text, continue_text};
 
 use crate::reply::{Content, Reply};

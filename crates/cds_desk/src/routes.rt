@@ -1,6 +1,4 @@
-ghost use Rattle.std.specs.Prelude.{◌≡◌, IfOk, MatchOption, None, option_map};
-ghost use Rattle.matchit.specs.Rows.{RowsOf};
-ghost use Rattle.matchit.specs.Router.{RouteOf};
+ghost use Rattle.std.specs.Prelude.{◌≡◌, IfOk, None, option_map};
 ghost use Rattle.matchit.specs.Seek.{first};
 ghost use Rattle.cds_desk.specs.Routes.{pattern_of, method_of, with_route, route_table};
 

@@ -1,4 +1,4 @@
-ghost use Rattle.std.specs.Prelude.{◌≡◌, ℕ, ◌≤◌, length, take, OnOk, OnErr};
+ghost use Rattle.std.specs.Prelude.{◌≡◌, ◌≤◌, OnOk, OnErr};
 ghost use Rattle.cds_base.specs.Faults.{Rose};
 ghost use Rattle.cds_base.specs.Told.{then_more};
 ghost use Rattle.cds_desk.specs.Sending.{HoldsPrefix};

@@ -1,10 +1,10 @@
 //! Serving a connection: items of the stream are taken one after the other, each is served before the next.
 
-ghost use Rattle.std.specs.Prelude.{◌≡◌, ◌≢◌, ◌+◌, ◌^◌, ◌<◌, ◌≤◌, true, false, [], ◌∷◌, length, slice_range, Some, None, ◌⊎◌, IsUtf8, List, ℕ, Option, IfOk, OnOk, OnErr, vec_len, codes, bytes_eq};
+ghost use Rattle.std.specs.Prelude.{◌≡◌, ◌≢◌, ◌+◌, ◌^◌, ◌<◌, ◌≤◌, true, false, [], ◌∷◌, length, slice_range, Some, None, ◌⊎◌, IsUtf8, IfOk, OnOk, OnErr, vec_len};
 ghost use Rattle.cds_base.specs.Faults.{Rose};
 ghost use Rattle.cds_base.specs.Told.{then_more};
 ghost use Rattle.cds_desk.specs.Sending.{HoldsPrefix};
-ghost use Rattle.cds_http.specs.Items.{request as request_item, fault as fault_item, continue as continue_item, Item};
+ghost use Rattle.cds_http.specs.Items.{request as request_item, fault as fault_item};
 ghost use Rattle.cds_http.specs.Stream.{message_of, IsRequestIn, room_of, ItemsFrom};
 ghost use Rattle.cds_http.specs.declared.next.Fault.{Fault};
 ghost use Rattle.cds_http.specs.declared.next.Next.TheVariants as next;

@@ -1,4 +1,4 @@
-ghost use Rattle.std.specs.Prelude.{◌≡◌, ◌≢◌, ◌⊎◌, ◌≤◌, ℕ, [], true, false, Some, None, IfSome};
+ghost use Rattle.std.specs.Prelude.{◌≡◌, ◌≢◌, ◌⊎◌, ◌≤◌, ℕ, [], false, Some, None, IfSome};
 ghost use Rattle.cds_base.specs.Faults.{Rose};
 ghost use Rattle.cds_desk.specs.Run.{Sent, IsStatus, IsServed, EndsUnserved};
 ghost use Rattle.cds_desk.specs.Serving.{reading};

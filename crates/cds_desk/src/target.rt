@@ -1,6 +1,6 @@
 ghost use Rattle.std.specs.Prelude.{◌≡◌, ◌==◌, get_or, Some};
 ghost use Rattle.std.specs.List.{before_first, after_first};
-ghost use Rattle.cds_desk.specs.Routes.{route_table, is_slash, is_question_mark, path_of, name_part, behind_name, behind_versions, path_number, named_on, trace_version, method_version, target_of, route_of};
+ghost use Rattle.cds_desk.specs.Routes.{route_table, is_slash, path_of, name_part, behind_name, behind_versions, path_number, named_on, trace_version, method_version, target_of, route_of};
 
 use crate::routes::{Route, find};
 use crate::words::number_in;

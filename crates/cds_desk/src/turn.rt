@@ -1,6 +1,6 @@
 //! The turn of one request: its answer is prepared, its change is kept and carried out, and its response is written.
 
-ghost use Rattle.std.specs.Prelude.{◌≡◌, ◌≤◌, ◌^◌, ◌<◌, true, length, ℕ, List, Option, Some, None, IfOk, IfSome, OnOk, OnErr, OnSome, bytes_eq, codes};
+ghost use Rattle.std.specs.Prelude.{◌≡◌, ◌≤◌, ◌^◌, ◌<◌, true, length, ℕ, List, Option, Some, None, IfOk, IfSome, OnOk, OnErr};
 ghost use Rattle.cds_base.specs.Faults.{Rose};
 ghost use Rattle.cds_book.specs.Plan.{room_of, Accepts};
 ghost use Rattle.cds_base.specs.Told.{then_more};

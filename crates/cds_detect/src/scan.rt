@@ -1,8 +1,7 @@
 ghost use Rattle.std.specs.Prelude.{◌≡◌, ◌+◌, ◌*◌, ◌<◌, ◌≤◌, length, Some};
-ghost use Rattle.cds_trace.specs.Signal.{IsTrace};
 ghost use Rattle.cds_detect.specs.Classes.{class_count, classes};
 ghost use Rattle.cds_detect.specs.Settings.{settings_of};
-ghost use Rattle.cds_detect.specs.Spans.{class_at, next_up, climb, fall, is_down};
+ghost use Rattle.cds_detect.specs.Spans.{next_up, climb, fall, is_down};
 ghost use Rattle.cds_detect.specs.Climbs.{flats_after};
 ghost use Rattle.cds_detect.specs.Windows.{Stands};
 

@@ -1,5 +1,4 @@
 ghost use Rattle.std.specs.Prelude.{◌≡◌, ◌+◌, ◌*◌, ◌∷◌, ◌++◌, [], ◌≤◌, ℤ, List, Some, length};
-ghost use Rattle.cds_trace.specs.Signal.{IsSample};
 ghost use Rattle.cds_figures.specs.Noise.{samples_in, extent_of, noise_of};
 
 use cds_base::{Steps, is_in_window};

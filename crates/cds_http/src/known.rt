@@ -1,6 +1,6 @@
 //! What is known of the message at the front of the bytes held, and how it grows.
 
-ghost use Rattle.std.specs.Prelude.{◌≡◌, ◌<◌, ◌≤◌, length};
+ghost use Rattle.std.specs.Prelude.{◌≡◌, ◌<◌};
 ghost use Rattle.cds_http.specs.Known.{Knows, KnowsAll, AnswersFront, is_blank};
 
 use crate::head::{Head, read_head};

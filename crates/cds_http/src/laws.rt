@@ -1,7 +1,7 @@
 //! Laws of the items of a stream. Each is proved by its contract. The body does nothing, or reads the stream to find
 //! what there is.
 
-ghost use Rattle.std.specs.Prelude.{◌≡◌, ℕ, Bool, false, true, List, ◌++◌, length};
+ghost use Rattle.std.specs.Prelude.{◌≡◌, ℕ, Bool, false, true, List, ◌++◌};
 ghost use Rattle.cds_http.specs.Items.{Item, AreItems, HasItems};
 ghost use Rattle.cds_http.specs.Totality.{passes};
 ghost use Rattle.cds_http.specs.Stream.{Stream, Decides, fed};

@@ -2,7 +2,7 @@ ghost use Rattle.std.specs.Prelude.{◌≡◌, ◌*◌, ◌<◌, ◌≤◌, All,
 ghost use Rattle.std.specs.Vec.{vec_len};
 ghost use Rattle.cds_rules.specs.declared.limits.TheConstants.{MOST_COMPONENTS};
 ghost use Rattle.cds_integrate.specs.Peaks.{gives, component_of};
-ghost use Rattle.cds_integrate.specs.Row.{window_of, windows_of, apex_time};
+ghost use Rattle.cds_integrate.specs.Row.{windows_of, apex_time};
 
 use crate::found::Found;
 use cds_base::{NoMemory, Window};

@@ -1,10 +1,7 @@
-ghost use Rattle.std.specs.Prelude.{◌≡◌, ◌+◌, ◌-◌, ◌*◌, ◌^◌, ℕ, ◌<◌, ◌≤◌, IfOk, IfSome, All, Option, length, pos, ◌<ℤ◌, ◌&&◌, not, int_lt, unsigned_abs};
-ghost use Rattle.cds_trace.specs.Heights.{span, height_by_span};
-ghost use Rattle.cds_area.specs.Area.{IsRatio};
+ghost use Rattle.std.specs.Prelude.{◌≡◌, ◌+◌, ◌-◌, ◌*◌, ◌^◌, ◌<◌, ◌≤◌, IfOk, IfSome, All, Option, length, pos, ◌<ℤ◌, ◌&&◌, not, int_lt, unsigned_abs};
 ghost use Rattle.cds_integrate.specs.Peaks.{boundary_height, is_valley_between, neighbour, IsValley, IsPeak, ArePeaks, component_of};
 ghost use Rattle.cds_integrate.specs.Row.{IsSound, StandsIn};
 ghost use Rattle.cds_integrate.specs.Standing.{IsMeasured, IsFound, widths};
-ghost use Rattle.cds_rules.specs.declared.limits.TheConstants.{MOST_COMPONENTS};
 
 use crate::found::Found;
 use crate::measures::{Measured, area_ratio, height_ratio, is_rejected, reported_area};

@@ -1,4 +1,4 @@
-ghost use Rattle.std.specs.Prelude.{◌≡◌, ◌≢◌, ℕ, ◌^◌, ◌<◌, ◌≤◌, Bool, true, List, [], ◌∷◌, ◌++◌, length, Option, Some, Ok, Err, option_map, is_some, is_ok, IsOk, IsErr, IfOk, IfSome, OnOk, OnErr};
+ghost use Rattle.std.specs.Prelude.{◌≡◌, ◌≢◌, ℕ, ◌^◌, ◌<◌, ◌≤◌, Bool, true, List, [], ◌∷◌, ◌++◌, length, Option, Some, Ok, Err, option_map, is_some, is_ok, IfOk, IfSome, OnOk, OnErr};
 ghost use Rattle.cds_base.specs.Faults.{Rose};
 ghost use Rattle.cds_keep.specs.Found.{Found, records, damaged, OneMoreAtMost};
 

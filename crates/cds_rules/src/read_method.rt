@@ -1,5 +1,5 @@
 //! Reading a method from its text.
-ghost use Rattle.std.specs.Prelude.{ok_or, ◌≡◌};
+ghost use Rattle.std.specs.Prelude.{ok_or};
 ghost use Rattle.toml.specs.View.{table_view};
 ghost use Rattle.cds_rules.specs.declared.error.MethodError.TheVariants.{NotToml};
 ghost use Rattle.cds_rules.specs.Fields.{fields_of};

@@ -1,5 +1,5 @@
 //! Reading the numbers of a method's text, group by group.
-ghost use Rattle.std.specs.Prelude.{◌≡◌, ◌<◌, ◌≤◌, ℕ, Some, IfOk, codes, is_some};
+ghost use Rattle.std.specs.Prelude.{◌≡◌, ◌<◌, ◌≤◌, ℕ, Some, codes, is_some};
 ghost use Rattle.cds_rules.specs.declared.limits.TheConstants.{LAST_TIME_MS, RULES};
 ghost use Rattle.cds_rules.specs.Ranges.{SlopeRanges, LeastRanges, TimeRanges};
 ghost use Rattle.cds_rules.specs.Section.{Gives, required};

@@ -5,7 +5,7 @@ ghost use Rattle.std.specs.List.{list_any};
 ghost use Rattle.std.specs.Str.{bytes_eq};
 ghost use Rattle.toml.specs.Data.{get_member};
 ghost use Rattle.toml.specs.View.{view, table_view, items_view};
-ghost use Rattle.cds_rules.specs.Section.{Gives, Refuses, needed, in_range, required, optional, only, entries, entry_path, entry};
+ghost use Rattle.cds_rules.specs.Section.{Gives, Refuses, needed, in_range, required, optional, only, entries, entry};
 ghost use Rattle.cds_rules.specs.Values.{number_in, name_in};
 ghost use Rattle.cds_rules.specs.Seen.{seen};
 

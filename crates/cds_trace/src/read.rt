@@ -1,4 +1,4 @@
-ghost use Rattle.std.specs.Prelude.{◌≡◌, ◌≢◌, ◌+◌, ◌*◌, ◌^◌, ◌<◌, ◌≤◌, ◌∷◌, [], true, false, length, pos, neg_ℤ, ◌≤ℤ◌, IfOk, IfErr, IfSome, Some, Ok, option_and_then};
+ghost use Rattle.std.specs.Prelude.{◌≡◌, ◌+◌, ◌*◌, ◌^◌, ◌<◌, ◌≤◌, ◌∷◌, [], true, false, length, pos, neg_ℤ, ◌≤ℤ◌, IfOk, IfErr, IfSome, Some, Ok, option_and_then};
 ghost use Rattle.csv.specs.Reading.{error_kind, stops_reader};
 ghost use Rattle.csv.specs.Records.{field_at, fields_of};
 ghost use Rattle.cds_trace.specs.Number.{number_of};

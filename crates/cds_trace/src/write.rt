@@ -1,5 +1,4 @@
-ghost use Rattle.std.specs.Prelude.{◌≡◌, ◌++◌, ◌*◌, ◌<◌, IfOk, Ok, OnOk, length};
-ghost use Rattle.cds_trace.specs.Signal.{Signal};
+ghost use Rattle.std.specs.Prelude.{◌≡◌, ◌++◌, ◌*◌, ◌<◌, IfOk, Ok, OnOk};
 ghost use Rattle.cds_trace.specs.TraceText.{csv_trace};
 ghost use Rattle.cds_trace.specs.WrittenText.{csv_text, line_of};
 
