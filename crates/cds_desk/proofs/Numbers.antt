@@ -1,5 +1,5 @@
 -- What `parse` answers to a text of digits.
-use Rattle.std.proofs.Common.{◌≡◌, ℕ, ◌≤◌, ◌<◌, ◌^◌, List, length, true, Option, Some, None, Result, Ok, Err, rules, arith, if◌then◌else◌}
+use Rattle.std.proofs.Common.{◌≡◌, ℕ, ◌≤◌, ◌<◌, ◌^◌, List, length, true, Some, None, Result, Ok, Err, rules, arith, if◌then◌else◌}
 use Rattle.std.specs.Prelude.{nat_lt, IsTrue}
 use Rattle.cds_desk.specs.Words.{is_number, below_2_64}
 use Rattle.std.specs.Char.{is_ascii_digit}

@@ -1,6 +1,6 @@
 -- What was received, from what is told of the source.
-use Rattle.std.proofs.Common.{◌≡◌, ℕ, ◌≤◌, ◌<◌, ◌+◌, List, [], ◌++◌, length, Option, Some, None, refl, sym, ap, inl, inr, arith, length-append, ◌∙◌}
-use Rattle.std.specs.Prelude.{IfSome, ◌⊎◌}
+use Rattle.std.proofs.Common.{◌≡◌, ℕ, ◌<◌, ◌+◌, List, [], ◌++◌, length, Option, Some, None, sym, ap, inl, inr, arith, length-append, ◌∙◌}
+use Rattle.std.specs.Prelude.{IfSome}
 use Rattle.std.proofs.lemmas.List.{append-nil}
 use Rattle.cds_base.specs.Told.{more_before}
 use Rattle.cds_desk.specs.Receiving.{AreReceived}

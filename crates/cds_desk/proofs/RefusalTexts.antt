@@ -1,6 +1,6 @@
 -- The texts of refusals that are written without memory.
 use Rattle.std.proofs.Common.{◌≡◌, ℕ, ◌+◌, List, [], ◌++◌, Bool, true, false, refl, sym, ap, ◌∙◌, codes, decimal, length-append, append_assoc, append-nil, arith}
-use Rattle.std.specs.Prelude.{length, if◌then◌else◌, None}
+use Rattle.std.specs.Prelude.{length, None}
 use Rattle.std.proofs.lemmas.Fmt.{decimal_digit}
 use Rattle.cds_wire.specs.Reply.{is_plain_word, reply_text}
 use Rattle.cds_wire.specs.declared.answer.Answer.TheVariants.{Refusal}

@@ -1,6 +1,6 @@
 -- A request that changed the tables, repeated at once; and a request that is refused.
 use Rattle.std.proofs.Common.{◌≡◌, ℕ, ◌≤◌, Bool, true, false, List, Option, Some, None, Result, Ok, Err, refl, sym, ap, ◌∙◌, subst, arith}
-use Rattle.std.specs.Prelude.{IsTrue, is_some, bytes_eq, length, unwrap_or, option_map, codes}
+use Rattle.std.specs.Prelude.{IsTrue, is_some, bytes_eq, length, unwrap_or, option_map}
 use Rattle.cds_rules.specs.Fields.{Fields}
 use Rattle.cds_rules.specs.Stated.{stated}
 use Rattle.cds_rules.specs.declared.error.MethodError.{MethodError}
@@ -24,7 +24,7 @@ use Rattle.cds_wire.specs.declared.answer.Answer.{Answer}
 use Rattle.cds_wire.specs.declared.answer.Answer.TheVariants as answer
 use Rattle.cds_wire.specs.declared.error.BodyError.{BodyError}
 use Rattle.cds_desk.specs.Routes.{target_of, route_of, method_of as method_on}
-use Rattle.cds_desk.specs.Step.{answered, only, decided, judged, judged_target, judged_method, judged_route, trace_put, draft_status, draft_decided, draft_put, draft_frozen, version_shown, after_change}
+use Rattle.cds_desk.specs.Step.{answered, only, decided, judged, judged_target, judged_method, judged_route, trace_put, draft_status, draft_put, draft_frozen, version_shown, after_change}
 use Rattle.cds_desk.specs.Repeat.{IsUnchanged, says_unchanged}
 use Rattle.cds_desk.specs.declared.judge.Judged.{Judged}
 use Rattle.cds_desk.specs.declared.reply.Content.{Content}

@@ -1,5 +1,5 @@
 -- What was sent so far of a text.
-use Rattle.std.proofs.Common.{◌≡◌, ℕ, ◌+◌, ◌-◌, ◌≤◌, List, ◌++◌, Option, Result, Ok, Err, subst, length, take, drop, refl, sym, ◌∙◌, ap, arith, length-drop, length-append}
+use Rattle.std.proofs.Common.{◌≡◌, ℕ, ◌+◌, ◌-◌, List, ◌++◌, Option, Result, Ok, Err, subst, length, take, drop, refl, sym, ◌∙◌, ap, arith, length-drop, length-append}
 use Rattle.std.specs.Prelude.{OnOk, OnErr}
 use Rattle.std.proofs.lemmas.List.{take-append-le}
 use Rattle.cds_base.specs.Told.{then_more}

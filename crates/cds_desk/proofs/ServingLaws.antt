@@ -1,10 +1,10 @@
 -- What was read, served and written so far, and what that comes to at the end.
-use Rattle.std.proofs.Common.{◌≡◌, ℕ, zero, suc, ◌+◌, ◌-◌, ◌*◌, ◌^◌, ◌<◌, ◌≤◌, Bool, true, false, ◌||◌, if◌then◌else◌, List, [], ◌∷◌, ◌++◌, length, take, min, Option, Some, None, refl, sym, ap, ◌∙◌, subst, inl, inr, append_assoc, append-nil, length-append, length-drop, arith}
+use Rattle.std.proofs.Common.{◌≡◌, ℕ, zero, suc, ◌+◌, ◌-◌, ◌*◌, ◌^◌, ◌<◌, ◌≤◌, Bool, true, false, ◌||◌, if◌then◌else◌, List, [], ◌∷◌, ◌++◌, length, Option, Some, None, refl, sym, ap, ◌∙◌, subst, inl, inr, append_assoc, append-nil, length-append, length-drop, arith}
 use Rattle.std.specs.Prelude.{◌⊎◌, IfSome, option_map}
 use Rattle.cds_base.specs.Told.{then_more, more_before}
 use Rattle.cds_base.proofs.ToldLaws.{then_more_twice, more_before_twice}
 use Rattle.cds_http.proofs.ItemLemmas.{AreItems-unique as items_unique}
-use Rattle.cds_http.specs.Items.{AreAfter, Message, Item, continue, request, fault, FirstItem, HasItems}
+use Rattle.cds_http.specs.Items.{AreAfter, Item, continue, request, fault, FirstItem, HasItems}
 use Rattle.cds_http.specs.Stream.{Stream, new_stream, fault_in, kept_answer, fed, answered, dropped, message_of, ItemsFrom, TellsItem, AddsAnswer, AddsRequest}
 use Rattle.cds_http.specs.declared.next.Fault.{Fault}
 use Rattle.cds_http.specs.declared.next.Next.{Next}
@@ -12,9 +12,8 @@ use Rattle.cds_http.specs.declared.next.Next.TheVariants as next
 use Rattle.cds_http.specs.declared.next.Request.{Request}
 use Rattle.cds_desk.specs.Sending.{HoldsPrefix}
 use Rattle.cds_book.specs.Tables.{TablesState}
-use Rattle.cds_desk.specs.Response.{continue_text}
-use Rattle.cds_desk.specs.Service.{Outcome, ServesItem, Serves, followed_by, writes, fault_text}
-use Rattle.cds_desk.specs.Serving.{World, Reading, world, reading, Changed, Read, ReadOn, ItemServed, ItemBroken, Served, is_refused, is_closed, IsDone, IsRefused, IsSourceFailed, IsSinkFailed, EndsAs}
+use Rattle.cds_desk.specs.Service.{Outcome, ServesItem, Serves, followed_by, writes}
+use Rattle.cds_desk.specs.Serving.{World, Reading, reading, Changed, Read, ReadOn, ItemServed, ItemBroken, Served, is_refused, is_closed, IsDone, IsRefused, IsSourceFailed, IsSinkFailed, EndsAs}
 use Rattle.cds_desk.specs.declared.serving.Ended.{Ended}
 use Rattle.cds_desk.specs.declared.serving.Ended.TheVariants.{Done, Refused, SinkFailed}
 use Rattle.cds_desk.proofs.ToldItems.{Told, told_nothing, told_fed, told_more, told_answer, told_continue, told_request, items_so_far, items_with, begins_with}

@@ -1,12 +1,11 @@
 -- How a session ends.
-use Rattle.std.proofs.Common.{◌≡◌, ◌∙◌, ℕ, List, Option, Some, None, Result, Ok, Err, refl, sym, ap, subst, inl, inr}
-use Rattle.std.specs.Prelude.{IfSome, is_some}
+use Rattle.std.proofs.Common.{◌≡◌, ℕ, List, Option, Some, None, Ok, refl, sym, subst, inl, inr}
+use Rattle.std.specs.Prelude.{IfSome}
 use Rattle.cds_book.specs.Tables.{TablesState}
 use Rattle.cds_keep.specs.Found.{Found, records, damaged}
 use Rattle.cds_desk.specs.Opening.{opened, OpensAs}
 use Rattle.cds_desk.specs.Serving.{Reading, world, EndsAs}
 use Rattle.cds_desk.specs.Session.{Opened, ServedUntil, devices, damage_of}
-use Rattle.cds_desk.specs.declared.desk.OpenError.{OpenError}
 use Rattle.cds_desk.specs.declared.serving.Ended.{Ended}
 
 -- the tables that were opened are those that the records make
@@ -47,14 +46,6 @@ served_until ended None found_now list tables after written written_now content 
     (opened_so None content list tables h holds opens, after, subst (λ (f : ℕ). EndsAs ended (world written content f tables) (world written_now content_now faults_now after) from to) same way)
 served_until ended (Some f) found_now list tables after written written_now content old content_now faults mid faults_now from to h holds opens same way =
     (opened_so (Some f) content list tables h holds opens, after, subst (λ (f : ℕ). EndsAs ended (world written content f tables) (world written_now content_now faults_now after) from to) same way)
-
--- a load that found this list leaves what a load finds
-pub finds_same : (found now : Option Found) (list : List (List ℕ)) (content : Option (List (List ℕ))) → IfSome found (λ f. (f ≡ records list) × (content ≡ Some list))
-    → IfSome now (λ f. f ≡ records list) → is_some now ≡ is_some found → now ≡ found
-finds_same None None list content h finds tells = refl
-finds_same None (Some g) list content h finds tells = absurd (cc)
-finds_same (Some f) None list content h finds tells = absurd (cc)
-finds_same (Some f) (Some g) list content h finds tells = ap Some (finds ∙ sym h.0)
 
 -- a load found this damage
 pub damage_found : (found : Option Found) (number : ℕ) → IfSome found (λ f. f ≡ damaged number) → IfSome found (λ f. damage_of f ≡ Some number)

@@ -1,9 +1,8 @@
 -- The items that a stream has told so far, as its bytes come.
-use Rattle.std.proofs.Common.{◌≡◌, ℕ, ◌+◌, ◌≤◌, ◌<◌, Bool, true, false, ◌||◌, List, [], ◌∷◌, ◌++◌, length, drop, Option, Some, None, refl, sym, ap, ◌∙◌, subst, append_assoc, append-nil, arith}
+use Rattle.std.proofs.Common.{◌≡◌, ℕ, ◌+◌, ◌≤◌, Bool, true, false, ◌||◌, List, [], ◌∷◌, ◌++◌, length, drop, Some, None, refl, sym, ap, ◌∙◌, subst, append_assoc, append-nil}
 use Rattle.std.proofs.lemmas.List.{drop-append-le}
-use Rattle.cds_http.specs.Items.{Message, Item, continue, request, fault, FirstItem, AreItems, AreAfter, HasItems}
-use Rattle.cds_http.specs.Stream.{Stream, new_stream, fed, answered, dropped, message_of, item_in, ItemsFrom, AddsAnswer, AddsRequest, last_items}
-use Rattle.cds_http.specs.declared.next.Fault.{Fault}
+use Rattle.cds_http.specs.Items.{Item, continue, request, fault, FirstItem, AreItems, AreAfter, HasItems}
+use Rattle.cds_http.specs.Stream.{Stream, new_stream, fed, answered, dropped, message_of, ItemsFrom, AddsAnswer, AddsRequest}
 use Rattle.cds_http.specs.declared.next.Next.TheVariants as next
 use Rattle.cds_http.specs.declared.next.Request.{Request}
 use Rattle.cds_http.proofs.ItemLemmas.{FirstItem-stays, FirstItem-unique}

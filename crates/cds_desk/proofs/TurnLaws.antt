@@ -1,5 +1,5 @@
 -- What the turn of a request comes to.
-use Rattle.std.proofs.Common.{◌≡◌, ℕ, ◌≤◌, Bool, List, Option, Result, Ok, Err, refl, sym, ap, ◌∙◌, arith}
+use Rattle.std.proofs.Common.{◌≡◌, ℕ, List, Option, Result, Ok, Err, refl, sym, ap, ◌∙◌, arith}
 use Rattle.std.specs.Prelude.{OnOk, OnErr, bytes_eq, codes}
 use Rattle.cds_base.specs.Told.{then_more}
 use Rattle.cds_book.specs.Plan.{Accepts}
@@ -14,7 +14,6 @@ use Rattle.cds_desk.specs.Service.{Outcome, ServesItem, turn, served, no_memory,
 use Rattle.cds_desk.specs.Serving.{World, world, Changed, ItemServed, ItemBroken}
 use Rattle.cds_desk.specs.Step.{judged}
 use Rattle.cds_desk.specs.Turn.{Asks, Comes, judged_of, answered_text}
-use Rattle.cds_desk.specs.declared.judge.Judged.{Judged}
 use Rattle.cds_desk.specs.declared.turn.Answered.{Answered}
 use Rattle.cds_desk.specs.declared.turn.Answered.TheVariants.{Response, NoMemory, KeeperFailed}
 use Rattle.cds_desk.specs.declared.turn.Asked.{Asked}

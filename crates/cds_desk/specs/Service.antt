@@ -1,8 +1,8 @@
 -- How a connection is served: the items of what its client sends, one after the other, each with what is written for
 -- it, what it changes, and what is kept of it.
-use Rattle.std.specs.Prelude.{◌≡◌, ◌⊎◌, ℕ, ◌+◌, Bool, true, false, List, [], ◌∷◌, ◌++◌, codes, bytes_eq, Option, Some, None, is_some, IsTrue, ⊤}
+use Rattle.std.specs.Prelude.{◌≡◌, ℕ, ◌+◌, Bool, true, false, List, [], ◌∷◌, ◌++◌, codes, bytes_eq, is_some, IsTrue, ⊤}
 use Rattle.cds_book.specs.Tables.{TablesState}
-use Rattle.cds_http.specs.Items.{Message, Item, continue, request, fault, HasItems}
+use Rattle.cds_http.specs.Items.{Message, Item, continue, request, fault}
 use Rattle.cds_http.specs.declared.next.Fault.{Fault}
 use Rattle.cds_http.specs.declared.next.Fault.TheVariants as because
 use Rattle.cds_wire.specs.declared.answer.Shown.TheVariants.{Number}

@@ -1,5 +1,5 @@
 -- What a call that serves a connection leaves of the devices and of the tables.
-use Rattle.std.specs.Prelude.{◌≡◌, ◌⊎◌, ℕ, ◌<◌, ◌+◌, ◌-◌, ◌^◌, ◌≤◌, min, Bool, true, false, List, [], ◌∷◌, ◌++◌, length, Option, Some, None, option_map, IfSome}
+use Rattle.std.specs.Prelude.{◌≡◌, ◌⊎◌, ℕ, ◌<◌, ◌+◌, ◌-◌, ◌^◌, ◌≤◌, min, Bool, true, false, List, [], ◌∷◌, ◌++◌, length, Option, option_map, IfSome}
 use Rattle.cds_base.specs.Told.{then_more, more_before}
 use Rattle.cds_book.specs.Tables.{TablesState}
 use Rattle.cds_http.specs.Items.{Item, continue, request, fault, HasItems}

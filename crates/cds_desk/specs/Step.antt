@@ -1,5 +1,5 @@
 -- What the machine answers to a request, and what it changes: a function of the tables, the request and the moment.
-use Rattle.std.specs.Prelude.{ℕ, Bool, true, false, not, ◌==◌, ◌+◌, List, [], ◌∷◌, length, codes, bytes_eq, Option, Some, None, Result, Ok, Err, unwrap_or, option_map, if◌then◌else◌}
+use Rattle.std.specs.Prelude.{ℕ, true, false, ◌+◌, List, [], ◌∷◌, length, codes, bytes_eq, Option, Some, None, Result, Ok, Err, unwrap_or, option_map, if◌then◌else◌}
 use Rattle.cds_trace.specs.Refusal.{number_of_refusal, record_of_refusal}
 use Rattle.cds_trace.specs.Signal.{Signal}
 use Rattle.cds_trace.specs.TraceText.{csv_trace}

@@ -1,5 +1,5 @@
 -- The turn of one request, in its parts.
-use Rattle.std.specs.Prelude.{◌≡◌, ℕ, ◌≤◌, ◌++◌, Bool, List, Option, Some, None, option_map, is_some, IsTrue, ⊤, codes, bytes_eq}
+use Rattle.std.specs.Prelude.{◌≡◌, ℕ, ◌++◌, Bool, List, Option, Some, None, option_map, is_some, IsTrue, ⊤, codes, bytes_eq}
 use Rattle.cds_base.specs.Faults.{Rose}
 use Rattle.cds_book.specs.Tables.{TablesState}
 use Rattle.cds_book.specs.declared.command.Change.{Change}

@@ -8,7 +8,6 @@ mod laws;
 mod methods;
 mod receiving;
 mod refusals;
-mod refusing;
 mod reply;
 mod response;
 mod routes;
@@ -19,6 +18,7 @@ mod target;
 mod top;
 mod traces;
 mod turn;
+mod without_memory;
 mod words;
 
 pub use answer::{DONE, REFUSED, TOO_MANY_BYTES};

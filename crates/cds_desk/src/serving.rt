@@ -13,10 +13,10 @@ ghost use Rattle.cds_desk.specs.Service.{fault_text};
 ghost use Rattle.cds_desk.specs.Turn.{Asks};
 
 use crate::desk::Desk;
-use crate::refusing::send_fault;
 use crate::response::continue_text;
 use crate::sending::send;
 use crate::turn::{Asked, answer, write_answer};
+use crate::without_memory::send_fault;
 use cds_base::{Clock, Failed, Sink, Source, Steps};
 use cds_http::{Fault, Messages, Next, Request, Span};
 use cds_keep::Keeper;

@@ -6,9 +6,9 @@ ghost use Rattle.cds_desk.specs.Session.{devices, SessionServed, status_of, dama
 
 use crate::answer::{DONE, REFUSED};
 use crate::desk::{Desk, OpenError};
-use crate::refusing::send_parts;
 use crate::serving::Ended;
 use crate::top::{DAMAGED, KEEPER_FAILED, NO_MEMORY, SINK_FAILED, SOURCE_FAILED};
+use crate::without_memory::send_parts;
 use cds_base::{Clock, Sink, Source, Steps};
 use cds_keep::{Keeper, LoadError};
 use itoa::Buffer;

@@ -10,11 +10,11 @@ ghost use Rattle.cds_desk.specs.Routes.{route_table};
 ghost use Rattle.cds_desk.specs.Turn.{judged_of, KeepsChange, Comes, answered_text};
 
 use crate::judge::{Judged, judge};
-use crate::refusing::{send_keeper_failed, send_no_memory};
 use crate::response::response_text;
 use crate::routes::Route;
 use crate::sending::send;
 use crate::target::read_target;
+use crate::without_memory::{send_keeper_failed, send_no_memory};
 use cds_base::{Bytes, Failed, NoMemory, Sink};
 use cds_book::{Change, Tables};
 use cds_codec::write;

@@ -1,6 +1,6 @@
-use Rattle.std.proofs.Common.{◌≡◌, ◌∙◌, [], Err, sym, ap, refl}
+use Rattle.std.proofs.Common.{◌∙◌, [], Err, ap}
 use Rattle.cds_desk.specs.Serving.{reading}
-use Rattle.cds_desk.proofs.SessionLaws.{served_until, finds_same, damage_found}
+use Rattle.cds_desk.proofs.SessionLaws.{served_until, damage_found}
 use Rattle.cds_desk.proofs.session.session.Goals as goal
 
 pub returns-in-Err-Damaged-clause-damaged : goal.returns-in-Err-Damaged-clause-damaged

@@ -1,7 +1,6 @@
-use Rattle.std.proofs.Common.{◌≡◌, ℕ, Option, Some, None, refl, sym, arith, rules}
+use Rattle.std.proofs.Common.{◌≡◌, ℕ, Option, Some, None, refl, arith}
 use Rattle.std.proofs.lemmas.Grind.{common_steps}
 use Rattle.cds_desk.specs.Words.{options_from}
-use Rattle.cds_desk.specs.declared.words.PeaksOptions.{PeaksOptions}
 use Rattle.cds_desk.proofs.words.read_peaks.Goals as goal
 
 -- nothing is set where the second number is not there

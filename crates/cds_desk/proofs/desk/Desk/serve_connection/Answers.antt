@@ -1,4 +1,4 @@
-use Rattle.std.proofs.Common.{◌≡◌, ◌∙◌, ◌<◌, false, List, [], length, refl, sym, ap, inl, inr, rules, arith}
+use Rattle.std.proofs.Common.{◌≡◌, ◌∙◌, ◌<◌, false, [], length, refl, ap, inl, inr, rules, arith}
 use Rattle.cds_http.specs.Items.{continue, fault}
 use Rattle.cds_http.specs.Stream.{Stream, fault_in, request_in, dropped, AddsRequest}
 use Rattle.cds_http.proofs.SizeLemmas.{request_some}

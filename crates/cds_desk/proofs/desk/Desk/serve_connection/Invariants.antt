@@ -1,4 +1,4 @@
-use Rattle.std.proofs.Common.{◌≡◌, ℕ, ◌+◌, ◌*◌, ◌^◌, ◌<◌, ◌≤◌, Bool, true, false, None, length, vec_len, if◌then◌else◌}
+use Rattle.std.proofs.Common.{◌≡◌, ◌+◌, ◌*◌, ◌^◌, ◌<◌, ◌≤◌, true, false, None, length, vec_len, if◌then◌else◌}
 use Rattle.cds_http.specs.Stream.{fault_in}
 use Rattle.cds_desk.specs.Serving.{world, reading}
 use Rattle.cds_desk.proofs.ServingLaws.{SoFar}

@@ -1,8 +1,7 @@
-use Rattle.std.proofs.Common.{◌≡◌, ◌∙◌, ap, decimal, None, codes}
-use Rattle.cds_desk.specs.Response.{head_text}
+use Rattle.std.proofs.Common.{◌∙◌, ap, decimal}
 use Rattle.cds_desk.proofs.RefusalTexts.{head_pieces}
 use Rattle.cds_desk.proofs.SendingLaws.{text_ok, text_err}
-use Rattle.cds_desk.proofs.refusing.send_head.Goals as goal
+use Rattle.cds_desk.proofs.without_memory.send_head.Goals as goal
 
 pub returns-clause-whole : goal.returns-clause-whole
 returns-clause-whole g c =

@@ -1,7 +1,7 @@
 use Rattle.std.proofs.Common.{sym, ap}
 use Rattle.cds_desk.specs.Response.{all_parts}
 use Rattle.cds_desk.proofs.SendingLaws.{behind_err, text_err}
-use Rattle.cds_desk.proofs.refusing.+send_parts.Goals as goal
+use Rattle.cds_desk.proofs.without_memory.+send_parts.Goals as goal
 
 pub returns-clause-prefix : goal.returns-clause-prefix
 returns-clause-prefix g n c =

@@ -1,8 +1,8 @@
-use Rattle.std.proofs.Common.{◌++◌, [], ◌∙◌, ap, codes}
+use Rattle.std.proofs.Common.{◌++◌, [], codes}
 use Rattle.cds_desk.specs.Response.{refusal_body}
 use Rattle.cds_desk.proofs.RefusalTexts.{body_parts}
 use Rattle.cds_desk.proofs.SendingLaws.{text_ok, text_err}
-use Rattle.cds_desk.proofs.refusing.send_body.Goals as goal
+use Rattle.cds_desk.proofs.without_memory.send_body.Goals as goal
 
 pub returns-clause-whole : goal.returns-clause-whole
 returns-clause-whole g c =
