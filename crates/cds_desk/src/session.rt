@@ -1,4 +1,4 @@
-ghost use Rattle.std.specs.Prelude.{◌≡◌, ◌≢◌, ◌⊎◌, ◌≤◌, ℕ, [], false, Some, None, IfSome};
+ghost use Rattle.std.specs.Prelude.{◌≡◌, ◌≢◌, ◌⊎◌, ◌≤◌, ℕ, [], true, false, Some, None, IfSome};
 ghost use Rattle.cds_base.specs.Faults.{Rose};
 ghost use Rattle.cds_desk.specs.Run.{Sent, IsStatus, IsServed, EndsUnserved};
 ghost use Rattle.cds_desk.specs.Serving.{reading};
@@ -27,6 +27,7 @@ pub(crate) fn session<S: Source, W: Sink, K: Keeper, C: Clock, L: Ledger>(
     ensures served { IsServed result → SessionServed result
         (devices (reading (S.given source.old) (S.left source.old)) (W.written sink.old) (K.finds keeper.old []) (K.content keeper.old) (K.faults keeper.old))
         (devices (reading (S.given source.new) (S.left source.new)) (W.written sink.new) (K.finds keeper.new []) (K.content keeper.new) (K.faults keeper.new)) }
+    ensures stays_open { IsServed result → K.is_open keeper.new ≡ true }
     ensures keeper_failed { result ≡ 5 → Rose (K.faults keeper.old) (K.faults keeper.new) × (source.new ≡ source.old) × (sink.new ≡ sink.old) × (K.is_open keeper.new ≡ false) }
     ensures damaged { result ≡ 8 → (number : ℕ) × IfSome (K.finds keeper.old []) (λ found. damage_of found ≡ Some number)
         × Sent (W.written sink.old) (W.written sink.new) (W.faults sink.old) (W.faults sink.new) (damaged_line number) }

@@ -94,6 +94,7 @@ pub fn run<S: Source, W: Sink, K: Keeper, C: Clock, D: Door, L: Ledger>(
     ensures session_served { is_session (map string_bytes words.now) ≡ true → IsServed result → SessionServed result
         (devices (reading (S.given source.old) (S.left source.old)) (W.written sink.old) (K.finds keeper.old []) (K.content keeper.old) (K.faults keeper.old))
         (devices (reading (S.given source.new) (S.left source.new)) (W.written sink.new) (K.finds keeper.new []) (K.content keeper.new) (K.faults keeper.new)) }
+    ensures session_stays_open { is_session (map string_bytes words.now) ≡ true → IsServed result → K.is_open keeper.new ≡ true }
     ensures keeper_failed { result ≡ 5 → (is_session (map string_bytes words.now) ≡ true) × Rose (K.faults keeper.old) (K.faults keeper.new) }
     ensures keeper_failed_touches_nothing { result ≡ 5 → (source.new ≡ source.old) × (sink.new ≡ sink.old) × (K.is_open keeper.new ≡ false) }
     ensures damaged { result ≡ 8 → (is_session (map string_bytes words.now) ≡ true) × ((number : ℕ) × IfSome (K.finds keeper.old []) (λ found. damage_of found ≡ Some number)
