@@ -7,6 +7,7 @@ ghost use Rattle.cds_book.specs.Tables.{TablesState, trace_of, trace_versions_of
 ghost use Rattle.cds_book.specs.declared.command.Change.{Change as Changed};
 ghost use Rattle.cds_book.specs.declared.command.Change.TheVariants as change;
 ghost use Rattle.cds_book.specs.declared.command.Plan.TheVariants as plan;
+ghost use Rattle.cds_book.specs.declared.limits.TheConstants.{MOST_TRACE_NAMES, MOST_VERSIONS, MOST_TRACE_VERSIONS, MOST_SAMPLES_IN_ALL, MOST_METHODS, MOST_METHOD_VERSIONS};
 
 /// An accepted change keeps all rules of the tables.
 pub fn rules_are_kept()
@@ -40,4 +41,9 @@ pub fn trace_versions_stay()
 pub fn method_versions_stay()
     ensures { (tables : TablesState) (c : Changed) (name : List ℕ) (version : ℕ) (text : List ℕ)
         → method_of tables name version ≡ Some text → method_of (applied tables c) name version ≡ Some text }
+{}
+
+/// The limits of the tables are these numbers.
+pub fn the_limits()
+    ensures { (MOST_TRACE_NAMES ≡ 5000) × (MOST_VERSIONS ≡ 1000) × (MOST_TRACE_VERSIONS ≡ 10000) × (MOST_SAMPLES_IN_ALL ≡ 20000000) × (MOST_METHODS ≡ 500) × (MOST_METHOD_VERSIONS ≡ 10000) }
 {}
