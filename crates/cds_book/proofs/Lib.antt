@@ -5,5 +5,6 @@ pub mod TraceLaws
 pub mod MethodLaws
 pub mod PlanLaws
 pub mod StayLaws
+pub mod ReadLaws
 pub mod HeldLaws
 pub mod RoomLaws

@@ -125,7 +125,7 @@ method_of-stays t (change.Freeze put number) name version text is = by_draft (dr
     by_draft (Some draft) there = rw (applied-freeze t put number draft there) (method_of-with t put draft name (draft ∷ []) version text is)
 
 -- how many versions a name has is how many versions there are
-trace_versions_of-signals : (t : TablesState) (name : List ℕ) → unwrap_or (trace_versions_of t name) 0 ≡ length (signals_of t name)
+pub trace_versions_of-signals : (t : TablesState) (name : List ℕ) → unwrap_or (trace_versions_of t name) 0 ≡ length (signals_of t name)
 unfolding trace_versions_of signals_of
 trace_versions_of-signals t name = by_found (traces_named t name)
   where

@@ -3,7 +3,7 @@ ghost use Rattle.std.specs.Prelude.{◌≡◌, ℕ, ◌+◌, List, Ok, Some, unw
 ghost use Rattle.cds_trace.specs.Signal.{Signal};
 ghost use Rattle.cds_book.specs.Kept.{IsTables};
 ghost use Rattle.cds_book.specs.Plan.{planned, applied, command_of, Accepts};
-ghost use Rattle.cds_book.specs.Tables.{TablesState, trace_of, trace_versions_of, method_of, method_versions_of};
+ghost use Rattle.cds_book.specs.Tables.{TablesState, trace_of, trace_versions_of, draft_of, method_of, method_versions_of};
 ghost use Rattle.cds_book.specs.declared.command.Change.{Change as Changed};
 ghost use Rattle.cds_book.specs.declared.command.Change.TheVariants as change;
 ghost use Rattle.cds_book.specs.declared.command.Plan.TheVariants as plan;
@@ -41,6 +41,23 @@ pub fn trace_versions_stay()
 pub fn method_versions_stay()
     ensures { (tables : TablesState) (c : Changed) (name : List ℕ) (version : ℕ) (text : List ℕ)
         → method_of tables name version ≡ Some text → method_of (applied tables c) name version ≡ Some text }
+{}
+
+/// A trace that was put is read back under the next number of its name.
+pub fn a_trace_is_read_back()
+    ensures { (tables : TablesState) (name : List ℕ) (signal : Signal)
+        → trace_of (applied tables (change.Trace name signal)) name (unwrap_or (trace_versions_of tables name) 0 + 1) ≡ Some signal }
+{}
+
+/// A draft that was put is read back.
+pub fn a_draft_is_read_back()
+    ensures { (tables : TablesState) (name text : List ℕ) → draft_of (applied tables (change.Draft name text)) name ≡ Some text }
+{}
+
+/// A draft that was frozen is read back under the number that was named.
+pub fn a_frozen_version_is_the_draft()
+    ensures { (tables : TablesState) (name : List ℕ) (version : ℕ)
+        → Accepts tables (change.Freeze name version) → method_of (applied tables (change.Freeze name version)) name version ≡ draft_of tables name }
 {}
 
 /// The limits of the tables are these numbers.
