@@ -6,5 +6,6 @@ pub mod MethodLaws
 pub mod PlanLaws
 pub mod StayLaws
 pub mod ReadLaws
+pub mod OtherLaws
 pub mod HeldLaws
 pub mod RoomLaws

@@ -114,6 +114,12 @@ command_of (Trace name signal) = command.Trace name signal
 command_of (Draft name text) = command.Draft name text
 command_of (Freeze name version) = command.Freeze name version
 
+-- the name of the trace or of the method that a change changes
+abbrev pub name_of_change : Change → List ℕ
+name_of_change (Trace name signal) = name
+name_of_change (Draft name text) = name
+name_of_change (Freeze name version) = name
+
 -- the change is one that is planned on these tables
 pub record Accepts (tables : TablesState) (change : Change) : Type 0 where
   pub command : IsCommand (command_of change)

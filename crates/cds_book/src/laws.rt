@@ -1,9 +1,9 @@
 //! Laws of the tables. Each is proved by its contract, and its body does nothing.
-ghost use Rattle.std.specs.Prelude.{◌≡◌, ℕ, ◌+◌, List, Ok, Some, unwrap_or};
+ghost use Rattle.std.specs.Prelude.{◌≡◌, ◌≢◌, ℕ, ◌+◌, List, Ok, Some, unwrap_or};
 ghost use Rattle.cds_trace.specs.Signal.{Signal};
 ghost use Rattle.cds_book.specs.Kept.{IsTables};
-ghost use Rattle.cds_book.specs.Plan.{planned, applied, command_of, Accepts};
-ghost use Rattle.cds_book.specs.Tables.{TablesState, trace_of, trace_versions_of, draft_of, method_of, method_versions_of};
+ghost use Rattle.cds_book.specs.Plan.{planned, applied, command_of, name_of_change, Accepts};
+ghost use Rattle.cds_book.specs.Tables.{TablesState, signals_of, texts_of, trace_of, trace_versions_of, draft_of, method_of, method_versions_of};
 ghost use Rattle.cds_book.specs.declared.command.Change.{Change as Changed};
 ghost use Rattle.cds_book.specs.declared.command.Change.TheVariants as change;
 ghost use Rattle.cds_book.specs.declared.command.Plan.TheVariants as plan;
@@ -58,6 +58,15 @@ pub fn a_draft_is_read_back()
 pub fn a_frozen_version_is_the_draft()
     ensures { (tables : TablesState) (name : List ℕ) (version : ℕ)
         → Accepts tables (change.Freeze name version) → method_of (applied tables (change.Freeze name version)) name version ≡ draft_of tables name }
+{}
+
+/// Whatever is changed, what stands under other names stays what it was: the versions of a trace, the draft and the
+/// versions of a method.
+pub fn other_names_stay()
+    ensures { (tables : TablesState) (c : Changed) (name : List ℕ) → name ≢ name_of_change c
+        → (signals_of (applied tables c) name ≡ signals_of tables name)
+        × (draft_of (applied tables c) name ≡ draft_of tables name)
+        × (texts_of (applied tables c) name ≡ texts_of tables name) }
 {}
 
 /// The limits of the tables are these numbers.
