@@ -8,3 +8,4 @@ pub mod TurnLaws
 pub mod Commands
 pub mod RepeatLaws
 pub mod SessionLaws
+pub mod StatusLaws

@@ -10,10 +10,10 @@ use Rattle.cds_http.specs.declared.next.Fault.{Fault}
 use Rattle.cds_http.specs.declared.next.Next.{Next}
 use Rattle.cds_http.specs.declared.next.Next.TheVariants as next
 use Rattle.cds_http.specs.declared.next.Request.{Request}
-use Rattle.cds_desk.specs.Sending.{HoldsPrefix}
+use Rattle.cds_desk.specs.Sending.{HoldsPart}
 use Rattle.cds_book.specs.Tables.{TablesState}
 use Rattle.cds_desk.specs.Service.{Outcome, ServesItem, Serves, followed_by, writes}
-use Rattle.cds_desk.specs.Serving.{World, Reading, reading, Changed, Read, ReadOn, ItemServed, ItemBroken, Served, is_refused, is_closed, IsDone, IsRefused, IsSourceFailed, IsSinkFailed, EndsAs}
+use Rattle.cds_desk.specs.Serving.{World, Reading, reading, Changed, Read, ReadOn, ItemServed, ItemBroken, Served, is_refused, is_closed, IsDone, IsRefused, IsSourceFailed, IsSinkFailed, EndsAs, AreServed, InAll}
 use Rattle.cds_desk.specs.declared.serving.Ended.{Ended}
 use Rattle.cds_desk.specs.declared.serving.Ended.TheVariants.{Done, Refused, SinkFailed}
 use Rattle.cds_desk.proofs.ToldItems.{Told, told_nothing, told_fed, told_more, told_answer, told_continue, told_request, items_so_far, items_with, begins_with}
@@ -66,37 +66,30 @@ changed_then a b c first second x y = record {
   untouched = λ none. y.untouched (omega (arith, none)) ∙ x.untouched (omega (arith, none));
 }
 
--- an outcome and then nothing
-followed-nil : (outcome : Outcome) → followed_by outcome (writes outcome.tables []) ≡ outcome
-followed-nil outcome =
-    let n : outcome.failures + 0 ≡ outcome.failures = omega arith in
-    rw (append-nil outcome.written, append-nil outcome.records, n) refl
-
--- nothing and then an outcome
-nil-followed : (tables : TablesState) (outcome : Outcome) → followed_by (writes tables []) outcome ≡ outcome
-nil-followed tables outcome =
-    let n : 0 + outcome.failures ≡ outcome.failures = omega arith in
-    rw n refl
-
-followed-assoc : (a b c : Outcome) → followed_by (followed_by a b) c ≡ followed_by a (followed_by b c)
-followed-assoc a b c =
-    let n : a.failures + b.failures + c.failures ≡ a.failures + (b.failures + c.failures) = omega arith in
-    rw (append_assoc a.written b.written c.written, append_assoc a.records b.records c.records, n) refl
+-- ---- items, one after the other
 
 -- one more item is served
-serves_then : (tables : TablesState) (items : List Item) (item : Item) (outcome last : Outcome) → Serves tables items outcome → ServesItem outcome.tables item last
-    → Serves tables (items ++ item ∷ []) (followed_by outcome last)
-serves_then tables [] item outcome last all one = (
-  last,
-  writes last.tables [],
-  subst (λ (o : Outcome). ServesItem o.tables item last) all one,
-  refl,
-  ap (λ (o : Outcome). followed_by o last) all ∙ nil-followed tables last ∙ sym (followed-nil last),
-)
-serves_then tables (x ∷ items) item outcome last all one =
-    let rest = all.1 in
-    let more = serves_then all.0.tables items item rest last all.3 (subst (λ (o : Outcome). ServesItem o.tables item last) all.4 one) in
-    (all.0, followed_by rest last, all.2, more, ap (λ (o : Outcome). followed_by o last) all.4 ∙ followed-assoc all.0 rest last)
+served_then : (items : List Item) (item : Item) (a b c : World) → AreServed a items b → ItemServed b c item → AreServed a (items ++ item ∷ []) c
+served_then [] item a b c all one = (c, subst (λ (w : World). ItemServed w c item) all one, refl)
+served_then (x ∷ items) item a b c all one = (all.0, all.1, served_then items item all.0 b c all.2 one)
+
+-- items that were served have one outcome in all
+pub in_all : (items : List Item) (before now : World) → AreServed before items now → InAll before now items
+in_all [] before now same = record {
+  outcome = writes before.tables [];
+  serves = refl;
+  changed = subst (λ (w : World). Changed before w (writes before.tables [])) (sym same) (changed_nothing before [] before.written);
+  written = ap (λ (w : World). w.written) same ∙ sym (then_more-nil before.written);
+}
+in_all (item ∷ items) before now all =
+    let one = all.1 in
+    let rest = in_all items all.0 now all.2 in
+    record {
+      outcome = followed_by one.outcome rest.outcome;
+      serves = (one.outcome, rest.outcome, one.serves, subst (λ (t : TablesState). Serves t items rest.outcome) one.changed.tables rest.serves, refl);
+      changed = changed_then before all.0 now one.outcome rest.outcome one.changed rest.changed;
+      written = rest.written ∙ ap (λ (k : Option (List ℕ)). then_more k rest.outcome.written) one.written ∙ then_more_twice before.written one.outcome.written rest.outcome.written;
+    }
 
 -- ---- the last item
 
@@ -117,12 +110,9 @@ last_closed (x ∷ y ∷ items) item = last_closed (y ∷ items) item
 pub record SoFar (before now : World) (from to : Reading) (m : Stream) : Type 0 where
   pub bytes : List ℕ
   pub items : List Item
-  pub outcome : Outcome
   pub told : Told bytes items m
   pub read : Read from to bytes
-  pub serves : Serves before.tables items outcome
-  pub changed : Changed before now outcome
-  pub written : now.written ≡ then_more before.written outcome.written
+  pub served : AreServed before items now
   pub not_refused : is_refused items ≡ false
   pub not_closed : is_closed items ≡ false
 
@@ -140,12 +130,9 @@ pub so_far_nothing : (w : World) (r : Reading) → SoFar w w r r new_stream
 so_far_nothing w r = record {
   bytes = [];
   items = [];
-  outcome = writes w.tables [];
   told = told_nothing;
   read = read-nil r;
-  serves = refl;
-  changed = changed_nothing w [] w.written;
-  written = sym (then_more-nil w.written);
+  served = refl;
   not_refused = refl;
   not_closed = refl;
 }
@@ -155,12 +142,9 @@ pub so_far_read : (w n : World) (from to after : Reading) (m m' : Stream) (count
 so_far_read w n from to after m m' count s r some = record {
   bytes = s.bytes ++ r.bytes;
   items = s.items;
-  outcome = s.outcome;
   told = subst (Told (s.bytes ++ r.bytes) s.items) (sym (r.fed some)) (told_fed s.bytes s.items m r.bytes s.told);
   read = read-then from to after s.bytes r.bytes s.read r.read;
-  serves = s.serves;
-  changed = s.changed;
-  written = s.written;
+  served = s.served;
   not_refused = s.not_refused;
   not_closed = s.not_closed;
 }
@@ -172,12 +156,9 @@ so_far_end w n from to after m m' count s r zero_is =
     record {
       bytes = s.bytes;
       items = s.items;
-      outcome = s.outcome;
       told = subst (Told s.bytes s.items) (sym (r.ended zero_is).0) s.told;
       read = subst (Read from after) (ap (λ (b : List ℕ). s.bytes ++ b) none ∙ append-nil s.bytes) (read-then from to after s.bytes r.bytes s.read r.read);
-      serves = s.serves;
-      changed = s.changed;
-      written = s.written;
+      served = s.served;
       not_refused = s.not_refused;
       not_closed = s.not_closed;
     }
@@ -203,12 +184,9 @@ so_far_at : (w n : World) (from to : Reading) (m m' : Stream) (s : SoFar w n fro
 so_far_at w n from to m m' s told = record {
   bytes = s.bytes;
   items = s.items;
-  outcome = s.outcome;
   told = told;
   read = s.read;
-  serves = s.serves;
-  changed = s.changed;
-  written = s.written;
+  served = s.served;
   not_refused = s.not_refused;
   not_closed = s.not_closed;
 }
@@ -227,12 +205,9 @@ so_far_served : (w n after : World) (from to : Reading) (m m' : Stream) (item : 
 so_far_served w n after from to m m' item s served refused closed told = record {
   bytes = s.bytes;
   items = s.items ++ item ∷ [];
-  outcome = followed_by s.outcome served.outcome;
   told = told;
   read = s.read;
-  serves = serves_then w.tables s.items item s.outcome served.outcome s.serves (subst (λ (t : TablesState). ServesItem t item served.outcome) s.changed.tables served.serves);
-  changed = changed_then w n after s.outcome served.outcome s.changed served.changed;
-  written = served.written ∙ ap (λ (k : Option (List ℕ)). then_more k served.outcome.written) s.written ∙ then_more_twice w.written s.outcome.written served.outcome.written;
+  served = served_then s.items item w n after s.served served;
   not_refused = last_refused s.items item ∙ refused;
   not_closed = last_closed s.items item ∙ closed;
 }
@@ -261,7 +236,7 @@ item_written n item text written serves is = record {
 }
 
 -- the sink failed in the text of an item, and nothing else happened
-pub item_broken : (n : World) (item : Item) (text : List ℕ) (written : Option (List ℕ)) → ServesItem n.tables item (writes n.tables text) → HoldsPrefix n.written written text
+pub item_broken : (n : World) (item : Item) (text : List ℕ) (written : Option (List ℕ)) → ServesItem n.tables item (writes n.tables text) → HoldsPart n.written written text
     → ItemBroken n (record n { written = written }) item
 item_broken n item text written serves front = record {
   outcome = writes n.tables text;
@@ -280,10 +255,7 @@ served_all w n from to m ended s are whole = record {
   read = s.read;
   whole = whole;
   are_items = are;
-  outcome = s.outcome;
-  serves = s.serves;
-  changed = s.changed;
-  written = s.written;
+  served = s.served;
 }
 
 -- all that came was served, and one more item behind it
@@ -294,10 +266,7 @@ served_more w n after from to m ended item s served are whole = record {
   read = s.read;
   whole = whole;
   are_items = are;
-  outcome = followed_by s.outcome served.outcome;
-  serves = serves_then w.tables s.items item s.outcome served.outcome s.serves (subst (λ (t : TablesState). ServesItem t item served.outcome) s.changed.tables served.serves);
-  changed = changed_then w n after s.outcome served.outcome s.changed served.changed;
-  written = served.written ∙ ap (λ (k : Option (List ℕ)). then_more k served.outcome.written) s.written ∙ then_more_twice w.written s.outcome.written served.outcome.written;
+  served = served_then s.items item w n after s.served served;
 }
 
 -- the source ended, and nothing but empty lines was left
@@ -342,11 +311,8 @@ broken_at w n after from to m item first s broken = record {
   items = s.items;
   item = item;
   begins = begins_with s.bytes s.items m item s.told first;
-  outcome = s.outcome;
-  serves = s.serves;
   between = n;
-  changed = s.changed;
-  written = s.written;
+  served = s.served;
   broken = broken;
 }
 
@@ -362,11 +328,8 @@ broken_at_end w n after from to m f last whole s broken = record {
   begins = λ all are.
       let same = items_unique all (s.items ++ fault f ∷ []) 0 s.bytes false true are (items_with s.bytes s.items m true (fault f ∷ []) s.told last) in
       ([], same ∙ sym (append-nil (s.items ++ fault f ∷ [])));
-  outcome = s.outcome;
-  serves = s.serves;
   between = n;
-  changed = s.changed;
-  written = s.written;
+  served = s.served;
   broken = broken;
 }
 

@@ -9,7 +9,7 @@ use Rattle.cds_codec.specs.Record.{HasRecord}
 use Rattle.cds_codec.proofs.Accepted.{HasRecord-accepted}
 use Rattle.cds_http.specs.Items.{Message, request}
 use Rattle.cds_desk.specs.Response.{response_text}
-use Rattle.cds_desk.specs.Sending.{HoldsPrefix}
+use Rattle.cds_desk.specs.Sending.{HoldsPart}
 use Rattle.cds_desk.specs.Service.{Outcome, ServesItem, turn, served, no_memory, keeper_failed}
 use Rattle.cds_desk.specs.Serving.{World, world, Changed, ItemServed, ItemBroken}
 use Rattle.cds_desk.specs.Step.{judged}
@@ -73,10 +73,10 @@ module _ {A E : Type 0} (r : Result A E) (w v : Option (List ℕ)) (c d : Option
       }
 
   -- a front of the answer was written
-  pub broken_err : OnErr r (HoldsPrefix w v (answered_text a asked.close asked.without_body)) → OnErr r (ItemBroken (world w c f t) (world v d e u) (request m))
+  pub broken_err : OnErr r (HoldsPart w v (answered_text a asked.close asked.without_body)) → OnErr r (ItemBroken (world w c f t) (world v d e u) (request m))
   broken_err = on r
     where
-      on : (r : Result A E) → OnErr r (HoldsPrefix w v (answered_text a asked.close asked.without_body)) → OnErr r (ItemBroken (world w c f t) (world v d e u) (request m))
+      on : (r : Result A E) → OnErr r (HoldsPart w v (answered_text a asked.close asked.without_body)) → OnErr r (ItemBroken (world w c f t) (world v d e u) (request m))
       on (Ok x) h = tt
       on (Err x) h = record {
         outcome = it_came.outcome;

@@ -3,15 +3,15 @@ use Rattle.std.specs.Prelude.{◌≡◌, ◌⊎◌, ℕ, ◌==◌, List, [], ◌
 use Rattle.std.specs.List.{list_any}
 use Rattle.cds_base.specs.Faults.{Rose}
 use Rattle.cds_base.specs.Told.{then_more}
-use Rattle.cds_desk.specs.Sending.{HoldsPrefix}
+use Rattle.cds_desk.specs.Sending.{HoldsPart}
 use Rattle.cds_desk.specs.Words.{options_of}
 use Rattle.cds_desk.specs.PeaksAnswer.{peaks_answer}
 use Rattle.cds_desk.specs.declared.answer.Answer.{Answer}
 use Rattle.cds_desk.specs.declared.words.PeaksOptions.{PeaksOptions}
 
--- a front of the text stands behind what the sink held, and all of it unless the sink failed
+-- the text stands whole behind what the sink held, or the sink failed and a front of it stands there
 abbrev pub Sent : Option (List ℕ) → Option (List ℕ) → ℕ → ℕ → List ℕ → Type 0
-Sent before now faults_before faults_now text = HoldsPrefix before now text × ((now ≡ then_more before text) ⊎ Rose faults_before faults_now)
+Sent before now faults_before faults_now text = (now ≡ then_more before text) ⊎ (HoldsPart before now text × Rose faults_before faults_now)
 
 -- the fact of the answer of `peaks` with these options to these bytes, where the bytes are told
 abbrev pub OfBytes : PeaksOptions → Option (List ℕ) → (Answer → Type 0) → Type 0

@@ -4,7 +4,7 @@ use Rattle.cds_base.specs.Told.{then_more, more_before}
 use Rattle.cds_book.specs.Tables.{TablesState}
 use Rattle.cds_http.specs.Items.{Item, continue, request, fault, HasItems}
 use Rattle.cds_http.specs.Stream.{Stream, fed as fed_with}
-use Rattle.cds_desk.specs.Sending.{HoldsPrefix}
+use Rattle.cds_desk.specs.Sending.{HoldsPart}
 use Rattle.cds_desk.specs.Service.{Outcome, ServesItem, Serves}
 use Rattle.cds_desk.specs.declared.serving.Ended.{Ended}
 use Rattle.cds_desk.specs.declared.serving.Ended.TheVariants.{Done, Refused, SourceFailed, SinkFailed, NoMemory}
@@ -55,7 +55,12 @@ pub record ItemBroken (before now : World) (item : Item) : Type 0 where
   pub outcome : Outcome
   pub serves : ServesItem before.tables item outcome
   pub changed : Changed before now outcome
-  pub written : HoldsPrefix before.written now.written outcome.written
+  pub written : HoldsPart before.written now.written outcome.written
+
+-- the items were served one after the other, each in the world that the one before it left
+abbrev pub AreServed : World → List Item → World → Type 0
+AreServed before [] now = now ≡ before
+AreServed before (item ∷ items) now = (between : World) × ItemServed before between item × AreServed between items now
 
 -- the last item is a fault
 abbrev pub is_refused : List Item → Bool
@@ -80,10 +85,7 @@ pub record Served (before now : World) (from to : Reading) (ended : Bool) (items
   pub read : Read from to bytes
   pub whole : ended ≡ true → IfSome to.left (λ rest. rest ≡ [])
   pub are_items : HasItems bytes ended items
-  pub outcome : Outcome
-  pub serves : Serves before.tables items outcome
-  pub changed : Changed before now outcome
-  pub written : now.written ≡ then_more before.written outcome.written
+  pub served : AreServed before items now
 
 -- the source was read to its end without a fault, or to a request after which the connection closes by its own wish
 abbrev pub IsDone : World → World → Reading → Reading → Type 0
@@ -112,11 +114,8 @@ pub record IsSinkFailed (before now : World) (from to : Reading) : Type 0 where
   pub items : List Item
   pub item : Item
   pub begins : (all : List Item) → HasItems bytes ended all → (later : List Item) × (all ≡ (items ++ item ∷ []) ++ later)
-  pub outcome : Outcome
-  pub serves : Serves before.tables items outcome
   pub between : World
-  pub changed : Changed before between outcome
-  pub written : between.written ≡ then_more before.written outcome.written
+  pub served : AreServed before items between
   pub broken : ItemBroken between now item
 
 -- the serving of a connection ended so; for want of memory nothing happened
@@ -126,6 +125,13 @@ EndsAs Refused before now from to = IsRefused before now from to
 EndsAs SourceFailed before now from to = IsSourceFailed before now from to
 EndsAs SinkFailed before now from to = IsSinkFailed before now from to
 EndsAs NoMemory before now from to = (now ≡ before) × (to ≡ from)
+
+-- the items were served with one outcome in all
+pub record InAll (before now : World) (items : List Item) : Type 0 where
+  pub outcome : Outcome
+  pub serves : Serves before.tables items outcome
+  pub changed : Changed before now outcome
+  pub written : now.written ≡ then_more before.written outcome.written
 
 -- the bytes of the stream were asked for once more: these came, and nothing where the source has ended
 pub record ReadOn (from to : Reading) (before now : Stream) (count : ℕ) : Type 0 where

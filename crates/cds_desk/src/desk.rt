@@ -50,7 +50,7 @@ impl From<AllocError> for OpenError {
 
 impl Desk {
     /// The desk whose tables the records make, one after the other. Damaged exactly where a record makes none, with
-    /// the number of the first such record. No record can be read yet, so that is the first of any. No step.
+    /// the number of the first such record. No record can be read yet, so where there is one, it is record 1. No step.
     pub fn open<L: Ledger>(
         alloc: Global,
         records: &Records,

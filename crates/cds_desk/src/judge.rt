@@ -32,8 +32,8 @@ pub(crate) fn only(reply: Reply) -> Judged
     }
 }
 
-/// Judges a request by what its target names: first the route, then the method, and then all that the tables say.
-/// Nothing is changed.
+/// Judges a request by what its target names: first the route, then the method, then the body by its reader, and then
+/// all that the tables say. Nothing is changed.
 pub(crate) fn judge(
     alloc: Global,
     tables: &Tables,

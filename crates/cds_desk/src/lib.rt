@@ -1,4 +1,5 @@
-//! The desk: the words of the command line, the work that they ask for, and the top call [`run`].
+//! The desk: routes and replies over the tables, the serving of a connection, the words of the command line, and the
+//! top call. Begin at [`run`], for a server at [`Desk::serve_connection`].
 #![tactic(auto)]
 
 mod answer;
@@ -23,7 +24,11 @@ mod words;
 
 pub use answer::{DONE, REFUSED, TOO_MANY_BYTES};
 pub use desk::{Desk, OpenError};
-pub use laws::{refused_request_changes_nothing, repeated_request_changes_nothing};
+pub use laws::{
+    a_step_answers_neither_503_nor_507, limits_of_messages_and_traces, limits_of_methods,
+    refused_request_changes_nothing, repeated_request_changes_nothing,
+    served_items_have_one_outcome,
+};
 pub use receiving::MOST_SOURCE_BYTES;
 pub use serving::Ended;
 pub use top::{DAMAGED, KEEPER_FAILED, NO_COMMAND, NO_MEMORY, SINK_FAILED, SOURCE_FAILED, run};

@@ -3,7 +3,7 @@
 ghost use Rattle.std.specs.Prelude.{◌≡◌, ◌≢◌, ◌+◌, ◌^◌, ◌<◌, ◌≤◌, true, false, [], ◌∷◌, length, slice_range, Some, None, ◌⊎◌, IsUtf8, IfOk, OnOk, OnErr, vec_len};
 ghost use Rattle.cds_base.specs.Faults.{Rose};
 ghost use Rattle.cds_base.specs.Told.{then_more};
-ghost use Rattle.cds_desk.specs.Sending.{HoldsPrefix};
+ghost use Rattle.cds_desk.specs.Sending.{HoldsPart};
 ghost use Rattle.cds_http.specs.Items.{request as request_item, fault as fault_item};
 ghost use Rattle.cds_http.specs.Stream.{message_of, IsRequestIn, room_of, ItemsFrom};
 ghost use Rattle.cds_http.specs.declared.next.Fault.{Fault};
@@ -35,9 +35,9 @@ pub enum Ended {
     Done,
     /// The last response tells a fault of the stream.
     Refused,
-    /// The source failed.
+    /// The source failed; the items of the bytes that were read before were served.
     SourceFailed,
-    /// The sink failed.
+    /// The sink failed in what is written for an item; a change that the item made stays, and was kept.
     SinkFailed,
     /// Memory was wanting before anything was read.
     NoMemory,
@@ -228,7 +228,7 @@ fn finish<W: Sink>(messages: &mut Messages, sink: &mut W) -> Ended
     requires not_closed { messages.old.closed ≡ false }
     ensures done { result ≡ Ended.Done → ItemsFrom messages.old [] true [] × (sink.new ≡ sink.old) }
     ensures refused { result ≡ Ended.Refused → (fault : Fault) × ItemsFrom messages.old [] true (fault_item fault ∷ []) × (W.written sink.new ≡ then_more (W.written sink.old) (fault_text fault)) }
-    ensures broken { result ≡ Ended.SinkFailed → (fault : Fault) × ItemsFrom messages.old [] true (fault_item fault ∷ []) × HoldsPrefix (W.written sink.old) (W.written sink.new) (fault_text fault) }
+    ensures broken { result ≡ Ended.SinkFailed → (fault : Fault) × ItemsFrom messages.old [] true (fault_item fault ∷ []) × HoldsPart (W.written sink.old) (W.written sink.new) (fault_text fault) }
     ensures rose { result ≡ Ended.SinkFailed → Rose (W.faults sink.old) (W.faults sink.new) }
     ensures either { (result ≡ Ended.Done) ⊎ (result ≡ Ended.Refused) ⊎ (result ≡ Ended.SinkFailed) }
     ensures counts { W.faults sink.old ≤ W.faults sink.new }
@@ -242,7 +242,7 @@ fn finish<W: Sink>(messages: &mut Messages, sink: &mut W) -> Ended
 /// Tells a fault of the stream.
 fn refuse<W: Sink>(sink: &mut W, fault: Fault) -> Ended
     ensures refused { result ≡ Ended.Refused → W.written sink.new ≡ then_more (W.written sink.old) (fault_text fault) }
-    ensures broken { result ≡ Ended.SinkFailed → HoldsPrefix (W.written sink.old) (W.written sink.new) (fault_text fault) × Rose (W.faults sink.old) (W.faults sink.new) }
+    ensures broken { result ≡ Ended.SinkFailed → HoldsPart (W.written sink.old) (W.written sink.new) (fault_text fault) × Rose (W.faults sink.old) (W.faults sink.new) }
     ensures either { (result ≡ Ended.Refused) ⊎ (result ≡ Ended.SinkFailed) }
     ensures counts { W.faults sink.old ≤ W.faults sink.new }
 {

@@ -3,7 +3,7 @@ ghost use Rattle.std.specs.String.{string_bytes};
 ghost use Rattle.cds_base.specs.Faults.{Rose};
 ghost use Rattle.cds_base.specs.Told.{then_more};
 ghost use Rattle.cds_rules.specs.Ranges.{SlopeRanges};
-ghost use Rattle.cds_desk.specs.Sending.{HoldsPrefix};
+ghost use Rattle.cds_desk.specs.Sending.{HoldsPart};
 ghost use Rattle.cds_desk.specs.Words.{options_of, is_session, States};
 ghost use Rattle.cds_desk.specs.Run.{Sent, OfAnswer, OfBytes, IsStatus, IsServed, EndsUnserved, usage_line};
 ghost use Rattle.cds_desk.specs.Serving.{reading};
@@ -86,7 +86,7 @@ pub fn run<S: Source, W: Sink, K: Keeper, C: Clock, D: Door, L: Ledger>(
 
     // A front of the table.
     ensures sink_failed_in_table { result ≡ 4 → OfAnswer (map string_bytes words.now) (S.left source.old) (λ answer.
-        (answer.status ≡ 0) × HoldsPrefix (W.written sink.old) (W.written sink.new) answer.text) }
+        (answer.status ≡ 0) × HoldsPart (W.written sink.old) (W.written sink.new) answer.text) }
     ensures peaks_keeps_nothing { IfSome (options_of (map string_bytes words.now)) (λ _. keeper.new ≡ keeper.old) }
 
     // ---- `session`, from the tables of the store that the load found
@@ -156,7 +156,7 @@ fn peaks<S: Source, W: Sink, L: Ledger>(
     ensures source_failed_writes_nothing { result ≡ SOURCE_FAILED → sink.new ≡ sink.old }
     ensures sink_failed { result ≡ SINK_FAILED → Rose (W.faults sink.old) (W.faults sink.new) }
     ensures sink_failed_in_table { result ≡ SINK_FAILED → OfBytes options (S.left source.old) (λ answer.
-        (answer.status ≡ DONE) × HoldsPrefix (W.written sink.old) (W.written sink.new) answer.text) }
+        (answer.status ≡ DONE) × HoldsPart (W.written sink.old) (W.written sink.new) answer.text) }
     ensures no_memory_writes_nothing { result ≡ NO_MEMORY → sink.new ≡ sink.old }
     ensures is_command { result ≢ NO_COMMAND }
     ensures loads_nothing { result ≢ KEEPER_FAILED }
@@ -181,7 +181,7 @@ fn tell<W: Sink>(sink: &mut W, answer: &Answer) -> u8
     requires { (answer.now.status ≡ DONE) ⊎ (answer.now.status ≡ REFUSED) }
     ensures done { result ≡ DONE → (answer.now.status ≡ DONE) × (W.written sink.new ≡ then_more (W.written sink.old) answer.now.text) }
     ensures refused { result ≡ REFUSED → (answer.now.status ≡ REFUSED) × Sent (W.written sink.old) (W.written sink.new) (W.faults sink.old) (W.faults sink.new) answer.now.text }
-    ensures sink_failed { result ≡ SINK_FAILED → (answer.now.status ≡ DONE) × Rose (W.faults sink.old) (W.faults sink.new) × HoldsPrefix (W.written sink.old) (W.written sink.new) answer.now.text }
+    ensures sink_failed { result ≡ SINK_FAILED → (answer.now.status ≡ DONE) × Rose (W.faults sink.old) (W.faults sink.new) × HoldsPart (W.written sink.old) (W.written sink.new) answer.now.text }
     ensures statuses { ((result ≡ DONE) ⊎ (result ≡ REFUSED)) ⊎ (result ≡ SINK_FAILED) }
     ensures counts { W.faults sink.old ≤ W.faults sink.new }
 {

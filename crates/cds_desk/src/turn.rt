@@ -4,7 +4,7 @@ ghost use Rattle.std.specs.Prelude.{◌≡◌, ◌≤◌, ◌^◌, ◌<◌, true
 ghost use Rattle.cds_base.specs.Faults.{Rose};
 ghost use Rattle.cds_book.specs.Plan.{room_of, Accepts};
 ghost use Rattle.cds_base.specs.Told.{then_more};
-ghost use Rattle.cds_desk.specs.Sending.{HoldsPrefix};
+ghost use Rattle.cds_desk.specs.Sending.{HoldsPart};
 ghost use Rattle.cds_desk.specs.Response.{response_text};
 ghost use Rattle.cds_desk.specs.Routes.{route_table};
 ghost use Rattle.cds_desk.specs.Turn.{judged_of, KeepsChange, Comes, answered_text};
@@ -135,7 +135,7 @@ pub(crate) fn write_answer<W: Sink>(
     without_body: bool,
 ) -> Result<(), Failed>
     ensures whole { OnOk result (W.written sink.new ≡ then_more (W.written sink.old) (answered_text answered.now close without_body)) }
-    ensures prefix { OnErr result (HoldsPrefix (W.written sink.old) (W.written sink.new) (answered_text answered.now close without_body)) }
+    ensures prefix { OnErr result (HoldsPart (W.written sink.old) (W.written sink.new) (answered_text answered.now close without_body)) }
     ensures counts { W.faults sink.old ≤ W.faults sink.new }
     ensures failed { OnErr result (Rose (W.faults sink.old) (W.faults sink.new)) }
 {

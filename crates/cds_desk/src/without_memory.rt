@@ -3,7 +3,7 @@
 ghost use Rattle.std.specs.Prelude.{◌≡◌, ◌≤◌, true, false, length, codes, None, OnOk, OnErr};
 ghost use Rattle.cds_base.specs.Faults.{Rose};
 ghost use Rattle.cds_base.specs.Told.{then_more};
-ghost use Rattle.cds_desk.specs.Sending.{HoldsPrefix};
+ghost use Rattle.cds_desk.specs.Sending.{HoldsPart};
 ghost use Rattle.cds_desk.specs.Response.{head_text, refusal_body, refusal_text, all_parts};
 ghost use Rattle.cds_desk.specs.Service.{fault_text, memory_text, keeper_text};
 
@@ -50,7 +50,7 @@ fn fault_parts(fault: Fault) -> (StatusCode, &'static str, u64)
 #[tactic(auto, using(crate::proofs::SendingLaws::text_err, crate::proofs::SendingLaws::text_ok))]
 pub(crate) fn send_fault<W: Sink>(sink: &mut W, fault: Fault) -> Result<(), Failed>
     ensures whole { OnOk result (W.written sink.new ≡ then_more (W.written sink.old) (fault_text fault)) }
-    ensures prefix { OnErr result (HoldsPrefix (W.written sink.old) (W.written sink.new) (fault_text fault)) }
+    ensures prefix { OnErr result (HoldsPart (W.written sink.old) (W.written sink.new) (fault_text fault)) }
     ensures counts { W.faults sink.old ≤ W.faults sink.new }
     ensures failed { OnErr result (Rose (W.faults sink.old) (W.faults sink.new)) }
 {
@@ -66,7 +66,7 @@ pub(crate) fn send_no_memory<W: Sink>(
     without_body: bool,
 ) -> Result<(), Failed>
     ensures whole { OnOk result (W.written sink.new ≡ then_more (W.written sink.old) (memory_text close without_body)) }
-    ensures prefix { OnErr result (HoldsPrefix (W.written sink.old) (W.written sink.new) (memory_text close without_body)) }
+    ensures prefix { OnErr result (HoldsPart (W.written sink.old) (W.written sink.new) (memory_text close without_body)) }
     ensures counts { W.faults sink.old ≤ W.faults sink.new }
     ensures failed { OnErr result (Rose (W.faults sink.old) (W.faults sink.new)) }
 {
@@ -88,7 +88,7 @@ pub(crate) fn send_keeper_failed<W: Sink>(
     without_body: bool,
 ) -> Result<(), Failed>
     ensures whole { OnOk result (W.written sink.new ≡ then_more (W.written sink.old) (keeper_text close without_body)) }
-    ensures prefix { OnErr result (HoldsPrefix (W.written sink.old) (W.written sink.new) (keeper_text close without_body)) }
+    ensures prefix { OnErr result (HoldsPart (W.written sink.old) (W.written sink.new) (keeper_text close without_body)) }
     ensures counts { W.faults sink.old ≤ W.faults sink.new }
     ensures failed { OnErr result (Rose (W.faults sink.old) (W.faults sink.new)) }
 {
@@ -114,7 +114,7 @@ fn send_refusal<W: Sink>(
 ) -> Result<(), Failed>
     requires { length error.now ≤ 1000 }
     ensures whole { OnOk result (W.written sink.new ≡ then_more (W.written sink.old) (refusal_text status error.now value close without_body)) }
-    ensures prefix { OnErr result (HoldsPrefix (W.written sink.old) (W.written sink.new) (refusal_text status error.now value close without_body)) }
+    ensures prefix { OnErr result (HoldsPart (W.written sink.old) (W.written sink.new) (refusal_text status error.now value close without_body)) }
     ensures counts { W.faults sink.old ≤ W.faults sink.new }
     ensures failed { OnErr result (Rose (W.faults sink.old) (W.faults sink.new)) }
 {
@@ -136,7 +136,7 @@ fn send_head<W: Sink>(
     close: bool,
 ) -> Result<(), Failed>
     ensures whole { OnOk result (W.written sink.new ≡ then_more (W.written sink.old) (head_text status (codes "application/json") count None close)) }
-    ensures prefix { OnErr result (HoldsPrefix (W.written sink.old) (W.written sink.new) (head_text status (codes "application/json") count None close)) }
+    ensures prefix { OnErr result (HoldsPart (W.written sink.old) (W.written sink.new) (head_text status (codes "application/json") count None close)) }
     ensures counts { W.faults sink.old ≤ W.faults sink.new }
     ensures failed { OnErr result (Rose (W.faults sink.old) (W.faults sink.new)) }
 {
@@ -162,7 +162,7 @@ fn send_head<W: Sink>(
 #[tactic(auto, using(crate::proofs::RefusalTexts::body_parts, crate::proofs::SendingLaws::text_err, crate::proofs::SendingLaws::text_ok))]
 fn send_body<W: Sink>(sink: &mut W, error: &str, digits: &[u8]) -> Result<(), Failed>
     ensures whole { OnOk result (W.written sink.new ≡ then_more (W.written sink.old) (refusal_body error.now digits.now)) }
-    ensures prefix { OnErr result (HoldsPrefix (W.written sink.old) (W.written sink.new) (refusal_body error.now digits.now)) }
+    ensures prefix { OnErr result (HoldsPart (W.written sink.old) (W.written sink.new) (refusal_body error.now digits.now)) }
     ensures counts { W.faults sink.old ≤ W.faults sink.new }
     ensures failed { OnErr result (Rose (W.faults sink.old) (W.faults sink.new)) }
 {
@@ -182,7 +182,7 @@ fn send_body<W: Sink>(sink: &mut W, error: &str, digits: &[u8]) -> Result<(), Fa
 #[tactic(auto, using(crate::proofs::SendingLaws::prefix_front, crate::proofs::SendingLaws::behind_err, crate::proofs::SendingLaws::behind_ok))]
 pub(crate) fn send_parts<W: Sink>(sink: &mut W, parts: &[&[u8]]) -> Result<(), Failed>
     ensures whole { OnOk result (W.written sink.new ≡ then_more (W.written sink.old) (all_parts parts.now)) }
-    ensures prefix { OnErr result (HoldsPrefix (W.written sink.old) (W.written sink.new) (all_parts parts.now)) }
+    ensures prefix { OnErr result (HoldsPart (W.written sink.old) (W.written sink.new) (all_parts parts.now)) }
     ensures counts { W.faults sink.old ≤ W.faults sink.new }
     ensures failed { OnErr result (Rose (W.faults sink.old) (W.faults sink.new)) }
 {
