@@ -7,9 +7,9 @@ use std::alloc::Global;
 use std::marker::Model;
 
 /// The tables: traces under their names in versions, and methods with a draft and frozen versions, all numbered
-/// from 1. They hold texts and samples as they were sent, and no result. Seen as what they hold, and as the kind
-/// and the name of the change for which room was taken. Whatever was done to them, names rise in byte order, each
-/// version differs from the one before it, each text is a method, and no count passes its limit.
+/// from 1. They hold texts as they were sent, the samples that they state, and no result. Seen as what they hold, and
+/// as the kind and the name of the change for which room was taken. Whatever was done to them, names rise in byte
+/// order, each version differs from the one before it, each text is a method, and no count passes its limit.
 #[derive(Debug, Drop)]
 pub struct Tables {
     pub(crate) traces: Vec<TraceEntry>,

@@ -16,7 +16,8 @@ use std::sync::ledger::Ledger;
 /// The status of a command that was carried out.
 pub const DONE: u8 = 0;
 
-/// The status of `peaks` where the trace is refused.
+/// The status of `peaks` where the trace is refused, and of `session` where the last response tells a fault of the
+/// stream.
 pub const REFUSED: u8 = 1;
 
 /// The number of the refusal of a source with more bytes than a command may read.

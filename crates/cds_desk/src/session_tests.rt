@@ -105,6 +105,30 @@ fn refusals_are_answered_in_their_order(rt: HostRuntime) -> Result<(), Fail> {
             "{\"error\":\"csv\",\"number\":3,\"value\":3}",
         ),
         (
+            "PUT /traces/flat HTTP/1.1\r\nContent-Length: 27\r\n\r\ntime_us,signal\n0,1\n1000,2,3",
+            "400 Bad Request",
+            "",
+            "{\"error\":\"csv\",\"number\":1,\"value\":3}",
+        ),
+        (
+            "PUT /traces/flat HTTP/1.1\r\n\r\n",
+            "400 Bad Request",
+            "",
+            "{\"error\":\"csv\",\"number\":2,\"value\":0}",
+        ),
+        (
+            "PUT /traces/flat HTTP/1.1\r\nContent-Length: 32\r\n\r\ntime_us,signal\n0,1\n1000,2\n2500,3",
+            "400 Bad Request",
+            "",
+            "{\"error\":\"csv\",\"number\":4,\"value\":4}",
+        ),
+        (
+            "PUT /traces/flat HTTP/1.1\r\nContent-Length: 26\r\n\r\ntime_us,signal\n0,100000001",
+            "400 Bad Request",
+            "",
+            "{\"error\":\"csv\",\"number\":7,\"value\":2}",
+        ),
+        (
             "GET /none HTTP/1.0\r\n\r\n",
             "404 Not Found",
             "Connection: close\r\n",
@@ -167,7 +191,7 @@ fn a_fault_of_the_stream_is_the_last_response(rt: HostRuntime) -> Result<(), Fai
     let cut = &FLAT.as_bytes()[..FLAT.len() - 1];
     let long = format!(in rt.alloc(); "GET / HTTP/1.1\r\nA: {}", spaces(rt.alloc(), 16_384)?)?;
     let fields = format!(in rt.alloc(); "GET / HTTP/1.1\r\n{}\r\n", fields(rt.alloc(), 65)?)?;
-    let rows: [(&[u8], &str, &str); 6] = [
+    let rows: [(&[u8], &str, &str); 7] = [
         (
             long.as_bytes(),
             "431 Request Header Fields Too Large",
@@ -177,6 +201,11 @@ fn a_fault_of_the_stream_is_the_last_response(rt: HostRuntime) -> Result<(), Fai
             fields.as_bytes(),
             "431 Request Header Fields Too Large",
             "{\"error\":\"fields\",\"number\":0,\"value\":64}",
+        ),
+        (
+            b"HEAD /traces/flat/1 HTTP/1.1\r\nContent-Length: 1, 1\r\n\r\n",
+            "400 Bad Request",
+            "{\"error\":\"head\",\"number\":0,\"value\":0}",
         ),
         (
             cut,

@@ -32,11 +32,11 @@ pub enum Fault {
     Truncated(u64),
     /// The message has a field `Transfer-Encoding`.
     LengthRequired(u64),
-    /// The body is longer than `MOST_BODY_BYTES`.
+    /// The stated length of the body is above `MOST_BODY_BYTES`.
     BodyTooLarge,
     /// The head didn't end within `MOST_HEAD_BYTES`.
     HeadTooLarge,
-    /// The head has more than `MOST_FIELDS` fields.
+    /// The request line and `MOST_FIELDS` and one further lines have ended, and none of them is empty.
     TooManyFields,
 }
 
