@@ -20,3 +20,5 @@ pub use rows::row;
 
 #[cfg(test)]
 mod tests;
+#[cfg(test)]
+mod worked_rows;

@@ -1,6 +1,7 @@
 ghost use Rattle.std.specs.Prelude.{◌≡◌, ◌<◌};
 
 use super::*;
+use crate::worked_rows::{LATE, LOW, ONE, PLAIN, ROWS, SIZES, SKIM_AT_7, Wanted};
 use cds_base::{Event, Peak, Ratio, Steps};
 use cds_rules::Method;
 use cds_trace::Trace;
@@ -9,576 +10,10 @@ use std::marker::Brand;
 use std::sync::ledger::{Blank, Ledger};
 use std::test::Fail;
 
-const ONE: &[i32] = &[0, 0, 0, 10, 40, 60, 40, 10, 0, 0, 0];
-
-const TWO: &[i32] = &[0, 0, 0, 10, 40, 60, 40, 20, 40, 60, 40, 10, 0, 0, 0];
-
-// The valley of two peaks lies under the line between their outer ends.
-const DEEP: &[i32] = &[50, 50, 50, 60, 90, 110, 60, 20, 60, 110, 90, 60, 50, 50, 50];
-
-// The valley of two peaks lies above half of their height.
-const HIGH: &[i32] = &[0, 0, 0, 10, 40, 60, 50, 40, 50, 60, 40, 10, 0, 0, 0];
-
-// The trace ends before its peak does.
-const LATE: &[i32] = &[0, 0, 0, 20, 60, 100, 80, 60, 40];
-
-const PLAIN: &str =
-    "bunch = 1\nslope_on = 5\nslope_off = 5\nplateau = 3\nfuse = 2\nmin_area = 1\nmin_height = 1\nweight = \"equal\"\nrules = 1\n";
-
-const LARGE: &str =
-    "bunch = 1\nslope_on = 5\nslope_off = 5\nplateau = 3\nfuse = 2\nmin_area = 160001\nmin_height = 1\nweight = \"equal\"\nrules = 1\n";
-
-const MIDDLE: &str =
-    "bunch = 1\nslope_on = 5\nslope_off = 5\nplateau = 3\nfuse = 2\nmin_area = 30001\nmin_height = 1\nweight = \"equal\"\nrules = 1\n";
-
-const TALL: &str =
-    "bunch = 1\nslope_on = 5\nslope_off = 5\nplateau = 3\nfuse = 2\nmin_area = 1\nmin_height = 61\nweight = \"equal\"\nrules = 1\n";
-
-const FORCED_FROM_2_TO_7: &str =
-    "bunch = 1\nslope_on = 5\nslope_off = 5\nplateau = 3\nfuse = 2\nmin_area = 1\nmin_height = 1\nweight = \"equal\"\nrules = 1
-[[event]]\nkind = \"baseline\"\nfrom_ms = 2000\nto_ms = 7000\n";
-
-const FORCED_FROM_6_TO_9: &str =
-    "bunch = 1\nslope_on = 5\nslope_off = 5\nplateau = 3\nfuse = 2\nmin_area = 1\nmin_height = 1\nweight = \"equal\"\nrules = 1
-[[event]]\nkind = \"baseline\"\nfrom_ms = 6000\nto_ms = 9000\n";
-
-const EARLY_LATE: &str =
-    "bunch = 1\nslope_on = 5\nslope_off = 5\nplateau = 3\nfuse = 2\nmin_area = 1\nmin_height = 1\nweight = \"equal\"\nrules = 1
-[[component]]\nname = \"a\"\ntime_ms = 4500\nwindow_ms = 1000
-[[component]]\nname = \"c\"\ntime_ms = 5500\nwindow_ms = 1000\n";
-
-const BETWEEN: &str =
-    "bunch = 1\nslope_on = 5\nslope_off = 5\nplateau = 3\nfuse = 2\nmin_area = 1\nmin_height = 1\nweight = \"equal\"\nrules = 1
-[[component]]\nname = \"k\"\ntime_ms = 7000\nwindow_ms = 2000\n";
-
-const BETWEEN_AND_BEFORE: &str =
-    "bunch = 1\nslope_on = 5\nslope_off = 5\nplateau = 3\nfuse = 2\nmin_area = 1\nmin_height = 1\nweight = \"equal\"\nrules = 1
-[[component]]\nname = \"k\"\ntime_ms = 7000\nwindow_ms = 2000
-[[component]]\nname = \"l\"\ntime_ms = 6500\nwindow_ms = 2500\n";
-
-/// A peak that is wanted: start, apex and end; the ends of its line, and whether it is a rider; its area in count samples;
-/// its height as a fraction; its crossings at half height and at one twentieth; the heights of its valley; its component.
-struct Wanted {
-    range: (u32, u32, u32),
-    line: (u32, u32),
-    rider: bool,
-    area: i128,
-    height: (i128, u64),
-    half: Option<(u64, u64)>,
-    twentieth: Option<(u64, u64)>,
-    valley: Option<(i128, i128)>,
-    component: Option<u32>,
-}
-
-/// What a row shows; its samples, one a second; its method; its manual events; its peaks.
-type Row = (
-    &'static str,
-    &'static [i32],
-    &'static str,
-    &'static [Event],
-    &'static [Wanted],
-);
-
-const PEAK: Wanted = Wanted {
-    range: (1, 5, 8),
-    line: (1, 8),
-    rider: false,
-    area: 160,
-    height: (60, 1),
-    half: Some((3_666_666, 6_333_333)),
-    twentieth: Some((2_300_000, 7_700_000)),
-    valley: None,
-    component: None,
-};
-
-const FIRST: Wanted = Wanted {
-    range: (1, 5, 7),
-    line: (1, 12),
-    rider: false,
-    area: 160,
-    height: (60, 1),
-    half: Some((3_666_666, 6_500_000)),
-    twentieth: None,
-    valley: None,
-    component: None,
-};
-
-const SECOND: Wanted = Wanted {
-    range: (7, 9, 12),
-    line: (1, 12),
-    rider: false,
-    area: 160,
-    height: (60, 1),
-    half: Some((7_500_000, 10_333_333)),
-    twentieth: None,
-    valley: Some((60, 20)),
-    component: None,
-};
-
-const RIDER: Wanted = Wanted {
-    range: (7, 9, 12),
-    line: (7, 12),
-    rider: true,
-    area: 110,
-    height: (48, 1),
-    half: Some((8_000_000, 10_307_692)),
-    twentieth: Some((7_100_000, 11_600_000)),
-    valley: None,
-    component: None,
-};
-
-// The first of the two fused peaks, over the straight line from its start to the valley.
-const BENT_FIRST: Wanted = Wanted {
-    range: (1, 5, 7),
-    line: (1, 7),
-    rider: false,
-    area: 100,
-    height: (140, 3),
-    half: Some((3_750_000, 6_000_000)),
-    twentieth: Some((2_850_000, 6_900_000)),
-    valley: None,
-    component: None,
-};
-
-// The second one, over the straight line from the valley to its end.
-const BENT_SECOND: Wanted = Wanted {
-    range: (7, 9, 12),
-    line: (7, 12),
-    rider: false,
-    area: 110,
-    height: (48, 1),
-    half: Some((8_000_000, 10_307_692)),
-    twentieth: Some((7_100_000, 11_600_000)),
-    valley: None,
-    component: None,
-};
-
-// The one peak over a baseline that is forced from sample 2 to sample 7.
-const FORCED: Wanted = Wanted {
-    range: (2, 5, 7),
-    line: (2, 7),
-    rider: false,
-    area: 130,
-    height: (54, 1),
-    half: Some((3_678_571, 6_156_250)),
-    twentieth: Some((2_337_500, 6_915_625)),
-    valley: None,
-    component: None,
-};
-
-const DEEP_FIRST: Wanted = Wanted {
-    range: (1, 5, 7),
-    line: (1, 7),
-    rider: false,
-    area: 195,
-    height: (80, 1),
-    half: Some((3_571_428, 5_888_888)),
-    twentieth: Some((1_800_000, 6_885_714)),
-    valley: None,
-    component: None,
-};
-
-const DEEP_SECOND: Wanted = Wanted {
-    range: (7, 9, 12),
-    line: (7, 12),
-    rider: false,
-    area: 180,
-    height: (78, 1),
-    half: Some((8_113_636, 10_361_111)),
-    twentieth: Some((7_114_705, 11_756_250)),
-    valley: None,
-    component: None,
-};
-
-const ROWS: [Row; 27] = [
-    ("one peak", ONE, PLAIN, &[], &[PEAK]),
-    ("two fused peaks", TWO, PLAIN, &[], &[FIRST, SECOND]),
-    (
-        "a valley event bends the baseline",
-        TWO,
-        PLAIN,
-        &[Event::Valley {
-            from: 7000,
-            to: 7001,
-        }],
-        &[BENT_FIRST, BENT_SECOND],
-    ),
-    (
-        "a skim event takes the rider out of its parent",
-        TWO,
-        PLAIN,
-        &[Event::Skim {
-            from: 7000,
-            to: 7001,
-        }],
-        &[
-            Wanted {
-                range: (1, 5, 7),
-                line: (1, 12),
-                rider: false,
-                area: 210,
-                height: (60, 1),
-                half: Some((3_666_666, 6_500_000)),
-                twentieth: None,
-                valley: None,
-                component: None,
-            },
-            RIDER,
-        ],
-    ),
-    (
-        "a valley under the line is a node",
-        DEEP,
-        PLAIN,
-        &[],
-        &[DEEP_FIRST, DEEP_SECOND],
-    ),
-    (
-        "a skim event on a node has no effect",
-        DEEP,
-        PLAIN,
-        &[Event::Skim {
-            from: 7000,
-            to: 7001,
-        }],
-        &[DEEP_FIRST, DEEP_SECOND],
-    ),
-    ("two samples", &[7, 7], PLAIN, &[], &[]),
-    (
-        "a peak behind a climb that was abandoned",
-        &[0, 0, 10, 10, 10, 10, 10, 10, 20, 40, 20, 10, 10, 10],
-        PLAIN,
-        &[],
-        &[Wanted {
-            range: (6, 9, 11),
-            line: (6, 11),
-            rider: false,
-            area: 50,
-            height: (30, 1),
-            half: Some((8_250_000, 9_750_000)),
-            twentieth: Some((7_150_000, 10_850_000)),
-            valley: None,
-            component: None,
-        }],
-    ),
-    (
-        "a peak that ends with the trace",
-        LATE,
-        PLAIN,
-        &[],
-        &[Wanted {
-            range: (1, 5, 8),
-            line: (1, 8),
-            rider: false,
-            area: 200,
-            height: (540, 7),
-            half: Some((3_875_000, 6_500_000)),
-            twentieth: Some((2_670_000, 7_850_000)),
-            valley: None,
-            component: None,
-        }],
-    ),
-    (
-        "of two components as far from a peak the first has it",
-        ONE,
-        EARLY_LATE,
-        &[],
-        &[Wanted {
-            range: (1, 5, 8),
-            line: (1, 8),
-            rider: false,
-            area: 160,
-            height: (60, 1),
-            half: Some((3_666_666, 6_333_333)),
-            twentieth: Some((2_300_000, 7_700_000)),
-            valley: None,
-            component: Some(1),
-        }],
-    ),
-    (
-        "of two peaks as far from a component it has the first",
-        TWO,
-        BETWEEN,
-        &[],
-        &[
-            Wanted {
-                range: (1, 5, 7),
-                line: (1, 12),
-                rider: false,
-                area: 160,
-                height: (60, 1),
-                half: Some((3_666_666, 6_500_000)),
-                twentieth: None,
-                valley: None,
-                component: Some(1),
-            },
-            SECOND,
-        ],
-    ),
-    (
-        "a nearer component takes a peak",
-        TWO,
-        BETWEEN_AND_BEFORE,
-        &[],
-        &[
-            Wanted {
-                range: (1, 5, 7),
-                line: (1, 12),
-                rider: false,
-                area: 160,
-                height: (60, 1),
-                half: Some((3_666_666, 6_500_000)),
-                twentieth: None,
-                valley: None,
-                component: Some(2),
-            },
-            Wanted {
-                range: (7, 9, 12),
-                line: (1, 12),
-                rider: false,
-                area: 160,
-                height: (60, 1),
-                half: Some((7_500_000, 10_333_333)),
-                twentieth: None,
-                valley: Some((60, 20)),
-                component: Some(1),
-            },
-        ],
-    ),
-    (
-        "a valley above half height cuts both widths",
-        HIGH,
-        PLAIN,
-        &[],
-        &[
-            Wanted {
-                range: (1, 5, 7),
-                line: (1, 12),
-                rider: false,
-                area: 180,
-                height: (60, 1),
-                half: None,
-                twentieth: None,
-                valley: None,
-                component: None,
-            },
-            Wanted {
-                range: (7, 9, 12),
-                line: (1, 12),
-                rider: false,
-                area: 180,
-                height: (60, 1),
-                half: None,
-                twentieth: None,
-                valley: Some((60, 40)),
-                component: None,
-            },
-        ],
-    ),
-    (
-        "a drop line cuts a peak",
-        ONE,
-        PLAIN,
-        &[Event::Drop { at: 6000 }],
-        &[
-            Wanted {
-                range: (1, 5, 6),
-                line: (1, 8),
-                rider: false,
-                area: 130,
-                height: (60, 1),
-                half: None,
-                twentieth: None,
-                valley: None,
-                component: None,
-            },
-            Wanted {
-                range: (6, 6, 8),
-                line: (1, 8),
-                rider: false,
-                area: 30,
-                height: (40, 1),
-                half: None,
-                twentieth: None,
-                valley: Some((60, 40)),
-                component: None,
-            },
-        ],
-    ),
-    (
-        "no valley behind a part that is rejected",
-        ONE,
-        MIDDLE,
-        &[Event::Drop { at: 4000 }],
-        &[Wanted {
-            range: (4, 5, 8),
-            line: (1, 8),
-            rider: false,
-            area: 130,
-            height: (60, 1),
-            half: None,
-            twentieth: None,
-            valley: None,
-            component: None,
-        }],
-    ),
-    (
-        "a forced baseline",
-        ONE,
-        PLAIN,
-        &[Event::Baseline {
-            from: 2000,
-            to: 7000,
-        }],
-        &[FORCED],
-    ),
-    (
-        "a forced baseline that overlaps an earlier one has no effect",
-        ONE,
-        PLAIN,
-        &[
-            Event::Baseline {
-                from: 2000,
-                to: 7000,
-            },
-            Event::Baseline {
-                from: 6000,
-                to: 9000,
-            },
-        ],
-        &[FORCED],
-    ),
-    // The two share sample 7 alone, so both have effect. No apex lies in the second, so it has no part, and it changes
-    // no end, since the one raw peak belongs to the first.
-    (
-        "a forced baseline in which no apex lies has no part",
-        ONE,
-        PLAIN,
-        &[
-            Event::Baseline {
-                from: 2000,
-                to: 7000,
-            },
-            Event::Baseline {
-                from: 7000,
-                to: 9000,
-            },
-        ],
-        &[FORCED],
-    ),
-    // The second line falls from 20 at sample 7 to 0 at sample 14: 160 under the signal, less 70 under the line. At the
-    // samples 7 to 11 the heights are 0, 160 / 7, 320 / 7, 200 / 7 and 10 / 7.
-    (
-        "of two forced baselines that share an end both have effect",
-        TWO,
-        PLAIN,
-        &[
-            Event::Baseline {
-                from: 1000,
-                to: 7000,
-            },
-            Event::Baseline {
-                from: 7000,
-                to: 14000,
-            },
-        ],
-        &[
-            BENT_FIRST,
-            Wanted {
-                range: (7, 9, 14),
-                line: (7, 14),
-                rider: false,
-                area: 90,
-                height: (320, 7),
-                half: Some((8_000_000, 10_210_526)),
-                twentieth: Some((7_100_000, 10_968_421)),
-                valley: None,
-                component: None,
-            },
-        ],
-    ),
-    // The second event has no effect, so the second raw peak is outside of forced baselines, a cluster of its own.
-    (
-        "of two that share more than an end the first has effect",
-        TWO,
-        PLAIN,
-        &[
-            Event::Baseline {
-                from: 1000,
-                to: 7000,
-            },
-            Event::Baseline {
-                from: 6000,
-                to: 14000,
-            },
-        ],
-        &[BENT_FIRST, BENT_SECOND],
-    ),
-    (
-        "a forced baseline of the method",
-        ONE,
-        FORCED_FROM_2_TO_7,
-        &[],
-        &[FORCED],
-    ),
-    (
-        "a forced baseline of the method stands before the row's own",
-        ONE,
-        FORCED_FROM_2_TO_7,
-        &[Event::Baseline {
-            from: 6000,
-            to: 9000,
-        }],
-        &[FORCED],
-    ),
-    // The method's event has effect alone: it lowers the end of the raw peak from 8 to 6, where the signal is 40. The
-    // line rises from 0 at sample 1 to 40 at sample 6: 130 under the signal, less 100 under the line. At the samples 3
-    // to 6 the heights are -6, 16, 28 and 0.
-    (
-        "also before one of the row that begins earlier",
-        ONE,
-        FORCED_FROM_6_TO_9,
-        &[Event::Baseline {
-            from: 2000,
-            to: 7000,
-        }],
-        &[Wanted {
-            range: (1, 5, 6),
-            line: (1, 6),
-            rider: false,
-            area: 30,
-            height: (28, 1),
-            half: Some((3_909_090, 5_500_000)),
-            twentieth: Some((3_336_363, 5_950_000)),
-            valley: None,
-            component: None,
-        }],
-    ),
-    (
-        "slopes that no rise reaches",
-        ONE,
-        PLAIN,
-        &[Event::Slope {
-            at: 0,
-            on: 30,
-            off: 5,
-        }],
-        &[],
-    ),
-    ("a part below the least area", ONE, LARGE, &[], &[]),
-    ("a part below the least height", ONE, TALL, &[], &[]),
-    (
-        "an inhibited rise",
-        ONE,
-        PLAIN,
-        &[Event::Inhibit { from: 0, to: 6000 }],
-        &[],
-    ),
-];
-
 fn row_by<L: Ledger>(
     alloc: Global,
     blank: Blank,
+    period: u64,
     samples: &[i32],
     method: &[u8],
     manual: &[Event],
@@ -588,18 +23,29 @@ fn row_by<L: Ledger>(
     requires some { 0 < blank.parts }
 {
     let mut steps: Steps<L> = Steps::new(blank);
-    let trace = Trace::from_samples(alloc, 1_000_000, samples)?;
+    let trace = Trace::from_samples(alloc, period, samples)?;
     let method = Method::read_toml(alloc, method)?;
     Ok(row(alloc, &trace, &method, manual, &mut steps)?)
 }
 
+fn row_every(
+    alloc: Global,
+    period: u64,
+    samples: &[i32],
+    method: &[u8],
+    manual: &[Event],
+) -> Result<RowPart, Fail> {
+    row_by::<Brand>(alloc, Blank::new(1), period, samples, method, manual)
+}
+
+// The row of a trace with one sample a second.
 fn row_of(
     alloc: Global,
     samples: &[i32],
     method: &[u8],
     manual: &[Event],
 ) -> Result<RowPart, Fail> {
-    row_by::<Brand>(alloc, Blank::new(1), samples, method, manual)
+    row_every(alloc, 1_000_000, samples, method, manual)
 }
 
 // Whether a ratio is this fraction.
@@ -648,6 +94,40 @@ fn rows_are_those_worked_out_by_hand(rt: HostRuntime) -> Result<(), Fail> {
             assert!(rt; is_measured(peak, want), "{shows}");
         }
     }
+    Ok(())
+}
+
+#[test]
+fn areas_and_heights_are_those_worked_out_by_hand(rt: HostRuntime) -> Result<(), Fail> {
+    for (shows, samples, method, manual, wanted) in SIZES {
+        let got = row_of(rt.alloc(), samples, method.as_bytes(), manual)?;
+        assert_eq!(rt; got.peaks().len(), wanted.len(), "{shows}");
+        for (peak, want) in got.peaks().iter().zip(wanted) {
+            assert_eq!(rt; (peak.start, peak.apex, peak.end), want.0, "{shows}");
+            assert_eq!(rt; peak.rider, want.1, "{shows}");
+            assert!(rt; is_ratio(peak.area, want.2, 1), "{shows}");
+            assert!(rt; is_ratio(peak.height, want.3, 1), "{shows}");
+        }
+    }
+    Ok(())
+}
+
+#[test]
+fn a_rider_crosses_half_its_height_above_its_tangent(rt: HostRuntime) -> Result<(), Fail> {
+    let got = row_of(rt.alloc(), LOW, PLAIN.as_bytes(), &[SKIM_AT_7])?;
+    let rider = got.peaks().last().ok_or("there is no peak")?;
+    assert_eq!(rt; rider.half, Some((8_000_000, 10_400_000)));
+    Ok(())
+}
+
+// Its exact area is 53,333.28 count milliseconds.
+#[test]
+fn reported_areas_and_crossings_are_rounded_down(rt: HostRuntime) -> Result<(), Fail> {
+    let got = row_every(rt.alloc(), 333_333, ONE, PLAIN.as_bytes(), &[])?;
+    let peak = got.peaks().first().ok_or("there is no peak")?;
+    assert_eq!(rt; peak.units, 53_333);
+    assert_eq!(rt; peak.half, Some((1_222_221, 2_111_109)));
+    assert_eq!(rt; peak.twentieth, Some((766_665, 2_566_664)));
     Ok(())
 }
 
