@@ -13,7 +13,8 @@ pub fn areas_are_conserved()
     ensures { (signal : Signal) (method : Method) (manual : List Event) → IsTrace signal → Conserves signal method manual }
 {}
 
-/// So where none of these parts is rejected, the exact areas of the row's peaks there are together the same.
+/// Between each two neighbouring nodes of each cluster's baseline, where no part of the row whose range lies there is
+/// rejected, the exact areas of the row's peaks there are together the area over the whole line.
 pub fn areas_of_peaks_are_conserved()
     ensures { (signal : Signal) (method : Method) (manual : List Event) (row : Answer)
         → IsTrace signal → IsRow signal method manual row → Sums signal method manual row }

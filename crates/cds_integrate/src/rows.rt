@@ -118,6 +118,13 @@ fn peaks_from<L: Ledger>(
 /// exact area and height, its crossings at half height and at one twentieth of it, and the heights for its peak to valley
 /// ratio. Components are numbered from 1; they name the peaks by the one naming that no wanted pair blocks.
 ///
+/// Areas are in count samples and heights in counts, both exact. Crossings are in microseconds from the start of the
+/// trace, reported areas in count milliseconds, both rounded down. The area of a part with riders goes on over its line to
+/// the end of the last rider's part, without the areas of its riders. Crossings are None where the signal stays above
+/// their level up to an end of the peak's range. The heights of the valley are None where no part of the cluster lies
+/// before the peak, where that part is rejected, where one of the two is a rider, and where the boundary of the two doesn't
+/// lie above the line.
+///
 /// Over each baseline line between two neighbouring nodes the exact areas of all parts whose ranges lie there, riders and
 /// rejected ones included, are together the area over the whole line. So where none of them is rejected, the areas of the
 /// peaks there are together the same.
