@@ -11,3 +11,4 @@ pub mod TangentLaws
 pub mod SumLaws
 pub mod ConservationLaws
 pub mod PeakSums
+pub mod StandLaws
