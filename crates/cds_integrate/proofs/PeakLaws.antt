@@ -1,5 +1,5 @@
 -- The peaks of a row, one at a time, and what holds of the numbers of each.
-use Rattle.std.proofs.Common.{◌≡◌, ℕ, suc, ◌+◌, true, false, not, ◌&&◌, List, [], ◌∷◌, ◌++◌, length, Option, Some, None, pos, ◌<ℤ◌, arith}
+use Rattle.std.proofs.Common.{◌≡◌, ℕ, suc, ◌+◌, true, false, not, ◌&&◌, List, [], ◌∷◌, ◌++◌, length, Option, Some, None, pos, ◌<ℤ◌, refl, ap, arith}
 use Rattle.std.specs.Prelude.{int_lt}
 use Rattle.std.proofs.lemmas.Bool.{and_parts}
 use Rattle.std.proofs.lemmas.Grind.{common_steps}
@@ -51,3 +51,11 @@ peaks-on signal method naming number (f ∷ fs) [] one peak are is = absurd are
 peaks-on signal method naming number (f ∷ fs) (p ∷ ps) one peak are is =
     let e : number + suc (length fs) ≡ suc number + length fs = omega arith in
     (are.0, peaks-on signal method naming (suc number) fs ps one peak are.1 (rw e at is))
+
+-- there are as many peaks as found parts
+pub peaks-count : (signal : Signal) (method : Method) (naming : List (Option ℕ)) (number : ℕ) (found : List Found) (peaks : List Peak) →
+    ArePeaks signal method naming number found peaks → length peaks ≡ length found
+peaks-count signal method naming number [] [] are = refl
+peaks-count signal method naming number [] (p ∷ ps) are = absurd are
+peaks-count signal method naming number (f ∷ fs) [] are = absurd are
+peaks-count signal method naming number (f ∷ fs) (p ∷ ps) are = ap suc (peaks-count signal method naming (suc number) fs ps are.1)

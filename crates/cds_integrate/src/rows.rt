@@ -90,6 +90,7 @@ fn peaks_from<L: Ledger>(
     ensures value { IfOk result (λ v. AreNamed trace.now method.now (found_of trace.now method.now manual.now) v.items) }
     ensures sound { IfOk result (λ v. All IsSound v.items) }
     ensures stand { IfOk result (λ v. All (StandsIn trace.now) v.items) }
+    ensures few { IfOk result (λ v. length v.items < length trace.now.samples) }
     ensures least { steps.old ≤ steps.new }
     ensures most { steps.new ≤ steps.old + 19 * length trace.now.samples }
 {
@@ -129,7 +130,7 @@ fn peaks_from<L: Ledger>(
 /// rejected ones included, are together the area over the whole line. So where none of them is rejected, the areas of the
 /// peaks there are together the same.
 ///
-/// `TooMany` comes exactly where there are more than 500 raw peaks. Want of memory is the one other answer. At least one
+/// A row has fewer peaks than its trace has samples. `TooMany` comes exactly where there are more than 500 raw peaks. Want of memory is the one other answer. At least one
 /// step, since sample 0 is read first, and at most 32 for each sample of the trace. The rules are this project's own.
 #[tactic(auto, using(crate::proofs::PeakSums::sums))]
 pub fn row<L: Ledger>(
@@ -141,6 +142,7 @@ pub fn row<L: Ledger>(
 ) -> Result<RowPart, NoMemory>
     ensures value { IfOk result (IsRow trace.now method.now manual.now) }
     ensures stand { IfOk result (λ row. All (StandsIn trace.now) (peaks_in row)) }
+    ensures few { IfOk result (λ row. length (peaks_in row) < length trace.now.samples) }
     ensures conserved { Conserves trace.now method.now manual.now }
     ensures sums { IfOk result (Sums trace.now method.now manual.now) }
     ensures least { steps.old + 1 ≤ steps.new }

@@ -7,6 +7,7 @@ use Rattle.cds_events.specs.Arrangement.{gap_of, clusters_of}
 use Rattle.cds_integrate.specs.Row.{events_of, found_in, found_of, windows_of, apex_time}
 use Rattle.cds_integrate.specs.declared.found.Found.{Found}
 use Rattle.cds_integrate.proofs.FoundLaws.{found-count}
+use Rattle.cds_integrate.proofs.PeakLaws.{peaks-count}
 use Rattle.cds_integrate.proofs.rows.peaks_from.Goals as goal
 
 pub returns-clause-value : goal.returns-clause-value
@@ -39,3 +40,10 @@ peaks_of-requires-clause-few g c =
     let many = found-count c.args.trace.now c.args.method.now c.in_ok-parts.parts.items c.in_ok-parts.ensures.kept in
     let size : length c.as_slice-found.result.now ≡ length c.in_ok-parts.parts.items = ap length c.as_slice-found.ensures.value in
     omega (arith, many, size, c.in_ok-parts.ensures.wide, c.len-samples.ensures.trace.few)
+
+pub returns-clause-few : goal.returns-clause-few
+returns-clause-few g c =
+    let many = found-count c.args.trace.now c.args.method.now c.in_ok-parts.parts.items c.in_ok-parts.ensures.kept in
+    let size : length c.as_slice-found.result.now ≡ length c.in_ok-parts.parts.items = ap length c.as_slice-found.ensures.value in
+    let same = peaks-count c.args.trace.now c.args.method.now c.in_ok-names.names 1 c.as_slice-found.result.now c.in_ok-peaks.peaks.items c.in_ok-peaks.ensures.value in
+    omega (arith, many, size, same, c.in_ok-parts.ensures.wide)
