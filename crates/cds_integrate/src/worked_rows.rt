@@ -604,7 +604,7 @@ pub(crate) type SizedRow = (
 );
 
 pub(crate) const SIZES: [SizedRow; 8] = [
-    // The second event begins before the first ends, so it has no effect, and the third ends no later for it.
+    // The second event begins before the first ends, so it has no effect, and the third isn't judged by it.
     (
         "a forced baseline without effect doesn't block a later one",
         TWO,
