@@ -130,8 +130,9 @@ fn peaks_from<L: Ledger>(
 /// rejected ones included, are together the area over the whole line. So where none of them is rejected, the areas of the
 /// peaks there are together the same.
 ///
-/// A row has fewer peaks than its trace has samples. `TooMany` comes exactly where there are more than 500 raw peaks. Want of memory is the one other answer. At least one
-/// step, since sample 0 is read first, and at most 32 for each sample of the trace. The rules are this project's own.
+/// A row has fewer peaks than its trace has samples. `TooMany` comes exactly where there are more than 500 raw peaks.
+/// Want of memory is the one other answer. At least one step, since sample 0 is read first, and at most 32 for each sample
+/// of the trace. The rules are this project's own.
 #[tactic(auto, using(crate::proofs::PeakSums::sums))]
 pub fn row<L: Ledger>(
     alloc: Global,
