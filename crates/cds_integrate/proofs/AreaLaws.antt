@@ -1,5 +1,5 @@
 -- Gross areas of parts in a row, those of their riders, and their bounds.
-use Rattle.std.proofs.Common.{◌≡◌, ℕ, zero, suc, ◌+◌, ◌-◌, ◌*◌, ◌^◌, ◌<◌, ◌≤◌, true, false, List, [], ◌∷◌, length, drop, get_or, ℤ, pos, negsuc, ◌+ℤ◌, ◌-ℤ◌, ◌*ℤ◌, ◌≤ℤ◌, inl, inr, refl, sym, ap, ◌∙◌, arith}
+use Rattle.std.proofs.Common.{◌≡◌, ℕ, zero, suc, ◌+◌, ◌-◌, ◌*◌, ◌<◌, ◌≤◌, true, false, List, [], ◌∷◌, length, drop, get_or, ℤ, pos, negsuc, ◌+ℤ◌, ◌-ℤ◌, ◌*ℤ◌, ◌≤ℤ◌, inl, inr, refl, sym, ap, ◌∙◌, arith}
 use Rattle.std.specs.Prelude.{unsigned_abs, if◌then◌else◌}
 use Rattle.std.specs.List.{fold}
 use Rattle.std.proofs.lemmas.Bool.{cases_Bool}
@@ -12,7 +12,6 @@ use Rattle.cds_integrate.specs.declared.shapes.Shape.{Shape}
 use Rattle.cds_integrate.specs.Lines.{chord}
 use Rattle.cds_integrate.specs.Measures.{riders, area_end, gross_area, gross_areas, twice_whole_area, twice_areas, area_of}
 use Rattle.cds_integrate.specs.Standing.{IsShape, Reaches, InRow}
-use Rattle.cds_integrate.proofs.NumberLaws.{area-fits}
 use Rattle.cds_integrate.proofs.RowLaws.{no_shape, area_end-low, shapes-at}
 
 -- gross areas from one part on
@@ -69,13 +68,6 @@ pub twice-step : (signal : Signal) (later : List Shape) (k : ℕ) (sum total : �
 twice-step signal later k sum total below is all =
     twice-on signal sum (get_or later k no_shape) (drop (k + 1) later) is ∙ (ap (λ xs. sum +ℤ twice_areas signal (riders xs)) (sym (shapes-at later k below)) ∙ all)
 
--- a slice's next part ends the riders
-pub twice-stop : (signal : Signal) (later : List Shape) (k : ℕ) (sum total : ℤ) → k < length later → (get_or later k no_shape).rider ≡ false →
-    sum +ℤ twice_areas signal (riders (drop k later)) ≡ total → sum ≡ total
-twice-stop signal later k sum total below is all =
-    let none = ap (λ xs. twice_areas signal (riders xs)) (shapes-at later k below) ∙ twice-end signal (get_or later k no_shape) (drop (k + 1) later) is in
-    omega (arith, ints, all, none)
-
 -- a gross area is at most twice the greatest sample for each sample of a trace
 pub gross-most : (signal : Signal) (shape : Shape) (later : List Shape) (end : ℕ) → IsTrace signal → IsShape signal shape → Reaches shape later → InRow signal shape.reach later end →
     unsigned_abs (gross_area signal shape later) ≤ 2 * 100000000 * (length signal.samples - 1) * (2 * span shape.line)
@@ -86,13 +78,6 @@ gross-most signal shape later end trace is reaches row =
     is.from reaches is.within is.levels.0 is.levels.1 in
     let narrow : width ≤ length signal.samples - 1 = omega (arith, reaches, is.within) in
     omega (arith, most, mul-le-mul_right (2 * span shape.line) narrow)
-
--- and below what a number of 128 bits holds
-pub gross-fits : (signal : Signal) (shape : Shape) (later : List Shape) (end : ℕ) → IsTrace signal → IsShape signal shape → Reaches shape later → InRow signal shape.reach later end →
-    unsigned_abs (gross_area signal shape later) < 2 ^ 66
-gross-fits signal shape later end trace is reaches row =
-    area-fits (unsigned_abs (gross_area signal shape later)) (length signal.samples - 1) (2 * span shape.line) (gross-most signal shape later end trace is reaches row)
-    (omega (arith, trace.few)) (omega (arith, trace.few, is.within))
 
 -- an area is the gross area without what is taken out of it
 pub area-without : (signal : Signal) (shape : Shape) (later : List Shape) (taken : ℤ) →

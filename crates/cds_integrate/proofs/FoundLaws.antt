@@ -17,15 +17,6 @@ use Rattle.cds_integrate.specs.Peaks.{with_before, kept_of}
 use Rattle.cds_integrate.specs.Standing.{InRow, IsFound, widths}
 use Rattle.cds_integrate.proofs.RowLaws.{no_shape}
 
--- one more part
-pub kept-on : (signal : Signal) (method : Method) (one : Found) (rest : List Found) →
-    kept_of signal method (one ∷ []) ++ kept_of signal method rest ≡ kept_of signal method (one ∷ rest)
-kept-on signal method one rest =
-    elim (cases_Bool (is_rejected signal method one.part)) [
-      | inl is ↦ rw is refl
-      | inr other ↦ rw other refl
-    ]
-
 -- a found part to stand where a list has none
 abbrev pub no_found : Found
 no_found = record { before = None; part = record { shape = no_shape; area = pos 0; height = pos 0 } }

@@ -20,10 +20,6 @@ pub area-fits : (num range den : ℕ) → num ≤ 2 * 100000000 * range * den �
 area-fits num range den most range_most den_most =
     omega (arith, most, mul-le-mul_right den range_most)
 
--- so are the areas of many riders
-pub taken-fits : (n : ℕ) → n < 2 ^ 32 → 2 ^ 66 * n ≤ 2 ^ 98
-taken-fits n few = omega arith
-
 -- of numbers whose multiple by a number above 0 isn't negative none is negative
 pub times-sign : (z : ℤ) (s : ℕ) → 0 < s → pos 0 ≤ℤ (z *ℤ pos s) → pos 0 ≤ℤ z
 times-sign (pos n) s some h = omega (arith, ints)

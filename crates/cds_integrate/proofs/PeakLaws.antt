@@ -1,29 +1,15 @@
 -- The peaks of a row, one at a time, and what holds of the numbers of each.
-use Rattle.std.proofs.Common.{◌≡◌, ℕ, suc, ◌+◌, true, false, not, ◌&&◌, List, [], ◌∷◌, ◌++◌, length, Option, Some, None, pos, ◌<ℤ◌, refl, ap, arith}
+use Rattle.std.proofs.Common.{◌≡◌, ℕ, suc, ◌+◌, true, false, not, ◌&&◌, List, [], ◌∷◌, ◌++◌, length, Option, pos, ◌<ℤ◌, refl, ap, arith}
 use Rattle.std.specs.Prelude.{int_lt}
 use Rattle.std.proofs.lemmas.Bool.{and_parts}
 use Rattle.std.proofs.lemmas.Grind.{common_steps}
-use Rattle.cds_base.specs.declared.peak.Ratio.{Ratio}
 use Rattle.cds_base.specs.declared.peak.Peak.{Peak}
 use Rattle.cds_rules.specs.declared.method.Method.{Method}
 use Rattle.cds_trace.specs.Signal.{Signal}
-use Rattle.cds_trace.specs.Heights.{span}
-use Rattle.cds_area.specs.Area.{IsRatio}
 use Rattle.cds_integrate.specs.declared.measures.Measured.{Measured}
 use Rattle.cds_integrate.specs.declared.found.Found.{Found}
 use Rattle.cds_integrate.specs.Measures.{is_rejected}
-use Rattle.cds_integrate.specs.Peaks.{boundary_height, is_valley_between, IsValley, neighbour, component_of, IsPeak, ArePeaks}
-
--- a boundary that is no valley
-pub valley-none : (signal : Signal) (method : Method) (before part : Measured) → is_valley_between signal method before part ≡ false →
-    IsValley signal part (neighbour signal method (Some before) part) None
-valley-none signal method before part other = rw other tt
-
--- one that is
-pub valley-some : (signal : Signal) (method : Method) (before part : Measured) (heights : Ratio × Ratio) → is_valley_between signal method before part ≡ true →
-    IsRatio heights.0 before.height (span before.shape.line) → IsRatio heights.1 (boundary_height signal part) (span part.shape.line) →
-    IsValley signal part (neighbour signal method (Some before) part) (Some heights)
-valley-some signal method before part heights is first second = rw is (first, second)
+use Rattle.cds_integrate.specs.Peaks.{boundary_height, is_valley_between, component_of, IsPeak, ArePeaks}
 
 -- it lies above the line
 pub valley-high : (signal : Signal) (method : Method) (before part : Measured) → is_valley_between signal method before part ≡ true →

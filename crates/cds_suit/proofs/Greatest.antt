@@ -1,13 +1,10 @@
--- The search for the greatest number that a deviation reaches, and what holds of values that have one.
-use Rattle.std.proofs.Common.{◌≡◌, ℕ, ◌+◌, ◌-◌, ◌*◌, ◌<◌, ◌≤◌, Bool, true, false, cond, ltb, List, length, Ok, Err, sym, subst, arith, inl, inr}
-use Rattle.std.specs.List.{sum}
+-- The search for the greatest number that a deviation reaches.
+use Rattle.std.proofs.Common.{◌≡◌, ℕ, ◌+◌, ◌-◌, ◌*◌, ◌<◌, ◌≤◌, Bool, List, sym, subst, arith, inl, inr}
 use Rattle.std.proofs.Math.Nat.{mul-le-mul}
 use Rattle.std.proofs.lemmas.Bool.{cases_lt, le-leb, lt-leb}
 use Rattle.cds_base.specs.Search.{greatest}
 use Rattle.cds_base.proofs.SearchLaws.{greatest-is}
-use Rattle.cds_base.specs.declared.peak.Missing.TheVariants.{TooFew, ZeroSum}
 use Rattle.cds_suit.specs.declared.square.Square.{Square}
-use Rattle.cds_suit.specs.Deviation.{if_deviates}
 use Rattle.cds_suit.specs.Square.{reaches, IsSquare}
 
 -- low is reached, and nothing from above on
@@ -45,23 +42,3 @@ greatest-end s low above is near =
     let within : low ≤ 80000 = let o = is.ordered in let t = is.top in omega arith in
     sym (greatest-is (reaches s) 80000 low within (le-leb (low * low * s.level) (s.spread * 100000000) is.reached)
     (λ k lt le. lt-leb (k * k * s.level) (s.spread * 100000000) (beyond s low k (missed_next s low above is near) lt)))
-
--- ---- values that have a deviation
-
--- what is computed of such values stands where they do
-pub if_deviates-map : {A B : Type 0} (f : A → B) (values : List ℕ) (a s : A) → Ok s ≡ if_deviates values a → Ok (f s) ≡ if_deviates values (f a)
-if_deviates-map {A} {B} f values a s is = go (ltb (length values) 2) (ltb 0 (sum values)) is
-  where
-    go : (few some : Bool) → Ok s ≡ cond few (Err TooFew) (cond some (Ok a) (Err ZeroSum)) → Ok (f s) ≡ cond few (Err TooFew) (cond some (Ok (f a)) (Err ZeroSum))
-    go true some e = cc
-    go false true e = cc
-    go false false e = cc
-
--- where they have one, it is what was computed
-pub if_deviates-ok : {A : Type 0} (values : List ℕ) (a s : A) → Ok s ≡ if_deviates values a → s ≡ a
-if_deviates-ok {A} values a s is = go (ltb (length values) 2) (ltb 0 (sum values)) is
-  where
-    go : (few some : Bool) → Ok s ≡ cond few (Err TooFew) (cond some (Ok a) (Err ZeroSum)) → s ≡ a
-    go true some e = cc
-    go false true e = cc
-    go false false e = cc
