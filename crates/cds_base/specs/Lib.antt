@@ -10,3 +10,6 @@ pub mod MemDoor
 pub mod Tiles
 pub mod EventTime
 pub mod Search
+pub mod RatioOrder
+pub mod Answers
+pub mod Failing

@@ -1,9 +1,13 @@
 -- What the object in memory that takes bytes holds.
-use Rattle.std.specs.Prelude.{ℕ, List}
+use Rattle.std.specs.Prelude.{ℕ, List, length, min}
+use Rattle.cds_base.specs.Failing.{FailingState}
 
--- bytes written, the count of faults, the number of calls so far, and the numbers of those that are to fail
+-- bytes written, the most that one call takes, and which calls fail
 pub record SinkState : Type 0 where
   pub written : List ℕ
-  pub faults : ℕ
-  pub calls : ℕ
-  pub failing : List ℕ
+  pub piece : ℕ
+  pub failing : FailingState
+
+-- how many bytes of a piece a call takes: all of them, or as many as one call takes
+abbrev pub taken_at_once : SinkState → List ℕ → ℕ
+taken_at_once sink piece = min (length piece) sink.piece

@@ -1,10 +1,14 @@
 -- What the objects in memory that give bytes hold.
-use Rattle.std.specs.Prelude.{ℕ, List}
+use Rattle.std.specs.Prelude.{ℕ, ◌-◌, List, length, min}
+use Rattle.cds_base.specs.Failing.{FailingState}
 
--- bytes given and left, the count of faults, the number of calls so far, and the numbers of those that are to fail
+-- bytes given and left, the most that one call gives, and which calls fail
 pub record SourceState : Type 0 where
   pub given : List ℕ
   pub left : List ℕ
-  pub faults : ℕ
-  pub calls : ℕ
-  pub failing : List ℕ
+  pub piece : ℕ
+  pub failing : FailingState
+
+-- how many bytes a call with so much room gives: as many as are left, as there is room for, and as one call gives
+abbrev pub given_at_once : SourceState → ℕ → ℕ
+given_at_once source room = min (min (length source.left) room) source.piece

@@ -1,10 +1,10 @@
-ghost use Rattle.std.specs.Prelude.{◌≡◌, length};
+ghost use Rattle.std.specs.Prelude.{◌≡◌, length, option_copied, slice_get};
 
 use std::marker::Model;
 
 /// What the left end of a part is.
 #[derive(Clone, Copy, Debug, PartialEq, Eq)]
-pub enum Boundary {
+pub enum Cut {
     /// The start of its cluster.
     Start,
     /// A valley between two raw peaks of its cluster.
@@ -20,16 +20,16 @@ pub struct Part {
     pub start: u32,
     pub apex: u32,
     pub end: u32,
-    pub left: Boundary,
+    pub left: Cut,
 }
 
 /// Parts in the order of their ranges. Seen as a list.
 #[derive(Debug, Drop)]
-pub struct PartList {
+pub struct Parts {
     items: Vec<Part>,
 }
 
-impl Model for PartList {
+impl Model for Parts {
     ghost use Rattle.std.specs.Prelude.{List};
     ghost use Rattle.cds_base.specs.declared.cluster.Part.{Part};
 
@@ -38,12 +38,12 @@ impl Model for PartList {
     ghost view = { λ a. a.items.items };
 }
 
-impl PartList {
+impl Parts {
     /// The list of these items. It takes no memory.
-    pub fn from_vec(items: Vec<Part>) -> PartList
+    pub fn from_vec(items: Vec<Part>) -> Parts
         ensures { result ≡ items.items }
     {
-        PartList { items }
+        Parts { items }
     }
 
     /// The parts in their order.
@@ -59,6 +59,13 @@ impl PartList {
     {
         self.items.len()
     }
+
+    /// The part at a place, counted from 0. None exactly where there are not so many.
+    pub fn get(&self, i: usize) -> Option<&Part>
+        ensures { option_copied result ≡ slice_get self.now i }
+    {
+        self.items.get(i)
+    }
 }
 
 /// Fused peaks over one stretch of the trace, or the peaks of a forced baseline: from the sample `start` to the
@@ -69,5 +76,5 @@ pub struct Cluster {
     pub end: u32,
     /// Whether a baseline event forces one straight baseline on it.
     pub forced: bool,
-    pub parts: PartList,
+    pub parts: Parts,
 }

@@ -1,10 +1,8 @@
-ghost use Rattle.std.specs.Prelude.{◌≡◌};
+ghost use Rattle.std.specs.Prelude.{◌≡◌, length, option_copied, slice_get};
 ghost use Rattle.cds_base.specs.EventTime.{is_in_window};
 
+use crate::time::MILLISECOND_US;
 use std::marker::Model;
-
-/// A millisecond, in microseconds: times of events are in milliseconds, those of samples in microseconds.
-const MILLISECOND_US: u64 = 1000;
 
 /// A timed event of a method or of a row. Times are in milliseconds from the start of the trace; a window holds
 /// the times from `from` up to and without `to`. The meaning of each kind is this project's own.
@@ -60,5 +58,19 @@ impl EventList {
         ensures { result.now ≡ self.now }
     {
         self.items.as_slice()
+    }
+
+    /// How many events there are.
+    pub fn len(&self) -> usize
+        ensures { result ≡ length self.now }
+    {
+        self.items.len()
+    }
+
+    /// The event at a place, counted from 0. None exactly where there are not so many.
+    pub fn get(&self, i: usize) -> Option<&Event>
+        ensures { option_copied result ≡ slice_get self.now i }
+    {
+        self.items.get(i)
     }
 }

@@ -11,37 +11,44 @@ mod cluster;
 mod door;
 mod event;
 mod failed;
+mod failing;
 mod fixed_clock;
+mod laws;
 mod mem_door;
 mod mem_sink;
 mod mem_source;
 mod name;
 mod no_fail;
 mod peak;
+mod ratio_order;
 mod sink;
 mod source;
 mod steps;
 mod text;
+mod time;
 
 pub use bytes::Bytes;
 pub use clock::{Clock, MOMENT_LIMIT};
-pub use cluster::{Boundary, Cluster, Part, PartList};
+pub use cluster::{Cluster, Cut, Part, Parts};
 pub use door::Door;
 pub use event::{Event, EventList, is_in_window};
 pub use failed::Failed;
+pub use failing::Failing;
 pub use fixed_clock::FixedClock;
+pub use laws::the_limits;
 pub use mem_door::MemDoor;
 pub use mem_sink::MemSink;
 pub use mem_source::MemSource;
 pub use name::{MOST_NAME_BYTES, Name};
 pub use no_fail::{NoFailSink, NoFailSource};
-pub use peak::{Line, Missing, Peak, Ratio, RawPeak, Window};
+pub use peak::{AREA_LIMIT, HEIGHT_LIMIT, Line, Missing, Peak, Ratio, RawPeak, Window};
 pub use sink::Sink;
 pub use source::Source;
 /// Want of memory: the one answer that no rule ties to the values of a call.
 pub use std::alloc::AllocError as NoMemory;
 pub use steps::Steps;
 pub use text::Text;
+pub use time::{LAST_TIME_MS, LAST_TIME_US, MILLISECOND_US};
 
 #[cfg(test)]
 mod tests;

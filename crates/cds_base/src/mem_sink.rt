@@ -1,9 +1,11 @@
-ghost use Rattle.std.specs.Prelude.{◌≡◌, ◌+◌, ◌-◌, ◌^◌, ◌<◌, ◌≤◌, ◌==◌, [], length, take, min, true, IfOk, IsErr, OnErr, Some};
-ghost use Rattle.std.specs.List.{list_any};
+ghost use Rattle.std.specs.Prelude.{◌≡◌, ◌<◌, ◌≤◌, [], length, take, true, IfOk, IsErr, OnErr, Some};
+ghost use Rattle.cds_base.specs.Failing.{fails_next, one_more};
 ghost use Rattle.cds_base.specs.Faults.{Rose};
+ghost use Rattle.cds_base.specs.Sink.{taken_at_once};
 ghost use Rattle.cds_base.specs.Told.{then_more};
 
 use crate::failed::Failed;
+use crate::failing::Failing;
 use crate::sink::Sink;
 use std::alloc::{AllocError, Global};
 use std::marker::Model;
@@ -14,9 +16,7 @@ use std::marker::Model;
 pub struct MemSink {
     written: Vec<u8>,
     piece: usize,
-    failing: Vec<u64>,
-    calls: u64,
-    faults: u64,
+    failing: Failing,
 }
 
 impl Model for MemSink {
@@ -25,7 +25,7 @@ impl Model for MemSink {
 
     ghost Value = { SinkState };
 
-    ghost view = { λ a. record { written = a.written.items; faults = a.faults; calls = a.calls; failing = a.failing.items } };
+    ghost view = { λ a. record { written = a.written.items; piece = a.piece; failing = a.failing } };
 
     ghost invariant = { λ a. 0 < a.piece };
 }
@@ -35,14 +35,12 @@ impl MemSink {
     /// listed.
     pub fn new(alloc: Global, piece: usize, failing: &[u64]) -> Result<MemSink, AllocError>
         requires { 0 < piece }
-        ensures { IfOk result (λ s. s ≡ record { written = []; faults = 0; calls = 0; failing = failing.now }) }
+        ensures { IfOk result (λ s. s ≡ record { written = []; piece = piece; failing = record { numbers = failing.now; calls = 0; faults = 0 } }) }
     {
         Ok(MemSink {
             written: Vec::new(alloc),
             piece,
-            failing: Vec::from_slice(alloc, failing)?,
-            calls: 0,
-            faults: 0,
+            failing: Failing::new(alloc, failing)?,
         })
     }
 
@@ -57,29 +55,31 @@ impl MemSink {
 impl Sink for MemSink {
     ghost written = { λ s. Some s.written };
 
-    ghost faults = { λ s. s.faults };
+    ghost faults = { λ s. s.failing.faults };
 
     /// As the trait says. It fails at the calls that are to fail, and else only where memory is wanting.
     fn write(&mut self, piece: &[u8]) -> Result<usize, Failed>
         ensures within { IfOk result (λ n. n ≤ length piece.now) }
+        ensures count { IfOk result (λ n. n ≡ taken_at_once self.old piece.now) }
         ensures some { IfOk result (λ n. 0 < length piece.now → 0 < n) }
         ensures writes { IfOk result (λ n. Some self.new.written ≡ then_more (Some self.old.written) (take n piece.now)) }
-        ensures counts { self.old.faults ≤ self.new.faults }
-        ensures failed { OnErr result (Rose self.old.faults self.new.faults) }
-        ensures kept { IfOk result (λ _. self.new.faults ≡ self.old.faults) }
+        ensures counts { self.old.failing.faults ≤ self.new.failing.faults }
+        ensures failed { OnErr result (Rose self.old.failing.faults self.new.failing.faults) }
+        ensures kept { IfOk result (λ _. self.new.failing.faults ≡ self.old.failing.faults) }
         ensures written_stays { OnErr result (self.new.written ≡ self.old.written) }
-        ensures calls { self.new.calls ≡ min (self.old.calls + 1) (2 ^ 64 - 1) }
-        ensures fails { list_any (λ call. call == self.new.calls) self.old.failing ≡ true → IsErr result }
-        ensures failing_stays { self.new.failing ≡ self.old.failing }
+        ensures calls { self.new.failing.calls ≡ one_more self.old.failing.calls }
+        ensures fails { fails_next self.old.failing ≡ true → IsErr result }
+        ensures numbers_stay { self.new.failing.numbers ≡ self.old.failing.numbers }
+        ensures piece_stays { self.new.piece ≡ self.old.piece }
     {
-        self.calls = self.calls.saturating_add(1);
-        let count = piece.len().min(self.piece);
-        if self.failing.contains(&self.calls)
-            || self.written.extend_from_slice(&piece[..count]).is_err()
-        {
-            self.faults = self.faults.saturating_add(1);
+        if self.failing.call() {
             return Err(Failed);
         }
+        let count = piece.len().min(self.piece);
+        let Ok(()) = self.written.extend_from_slice(&piece[..count]) else {
+            self.failing.fault();
+            return Err(Failed);
+        };
         Ok(count)
     }
 }

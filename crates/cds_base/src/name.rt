@@ -19,7 +19,7 @@ pub const MOST_NAME_BYTES: usize = 64;
 /// ordered as their bytes are. This project's own rule.
 #[derive(Clone, Copy, Debug)]
 pub struct Name {
-    bytes: [u8; 64],
+    bytes: [u8; MOST_NAME_BYTES],
     len: usize,
 }
 
@@ -119,11 +119,11 @@ fn is_name_byte(byte: u8) -> bool
     byte.is_ascii_alphanumeric() || byte == b'-' || byte == b'_' || byte == b'.'
 }
 
-fn padded(bytes: &[u8]) -> [u8; 64]
+fn padded(bytes: &[u8]) -> [u8; MOST_NAME_BYTES]
     requires { length bytes.now ≤ MOST_NAME_BYTES }
     ensures { result ≡ padded_name bytes.now }
 {
-    let mut held = [0; 64];
+    let mut held = [0; MOST_NAME_BYTES];
     put_front(&mut held, bytes);
     held
 }

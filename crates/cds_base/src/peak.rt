@@ -1,5 +1,12 @@
 ghost use Rattle.std.specs.Prelude.{◌≤◌};
 
+/// Reported areas are below this, in count milliseconds. The longest trace has at most 200,000,000 counts above its
+/// line for 14,400,000 milliseconds.
+pub const AREA_LIMIT: u64 = 1 << 52;
+
+/// The numerators of heights are below this, in absolute value.
+pub const HEIGHT_LIMIT: u128 = 1 << 60;
+
 /// A raw peak as the detector finds it, in samples from the start of the trace: where it begins, its first
 /// greatest sample, and where it ends.
 #[derive(Clone, Copy, Debug, PartialEq, Eq)]
@@ -72,8 +79,10 @@ pub struct Peak {
     pub end: u32,
     /// Whether it is skimmed off its parent by a tangent.
     pub rider: bool,
-    /// The baseline below it.
+    /// The straight line below it: the baseline, or the tangent of a rider.
     pub line: Line,
+    /// Its time, in microseconds: that of its apex under the rules of its method.
+    pub time_us: u64,
     /// Its exact area, in count samples.
     pub area: Ratio,
     /// Its reported area, in count milliseconds, rounded down.

@@ -1,7 +1,10 @@
 ghost use Rattle.std.specs.Prelude.{◌≡◌, IfSome};
+ghost use Rattle.std.specs.List.{All};
+ghost use Rattle.cds_base.specs.MemDoor.{IsUnused};
 
 use super::*;
 use std::alloc::Global;
+use std::collections::VecDeque;
 use std::test::Fail;
 
 #[test]
@@ -82,10 +85,17 @@ fn a_clock_answers_its_moments_and_then_the_last_one(rt: HostRuntime) -> Result<
 }
 
 // A connection that sends these bytes, given and taken whole.
-fn add_connection(alloc: Global, door: &mut MemDoor, bytes: &[u8]) -> Result<(), Fail> {
+fn add_connection(
+    alloc: Global,
+    coming: &mut VecDeque<(MemSource, MemSink)>,
+    bytes: &[u8],
+) -> Result<(), Fail>
+    requires { All IsUnused coming.old.items }
+    ensures { All IsUnused coming.new.items }
+{
     let source = MemSource::new(alloc, bytes, 9, &[])?;
     let sink = MemSink::new(alloc, 9, &[])?;
-    door.add(source, sink)?;
+    coming.push_back((source, sink))?;
     Ok(())
 }
 
@@ -106,9 +116,10 @@ fn echo<D: Door>(door: &mut D, room: &mut [u8; 3]) -> Result<usize, Failed>
 fn a_door_gives_its_connections_in_order_and_keeps_the_closed_ones(
     rt: HostRuntime,
 ) -> Result<(), Fail> {
-    let mut door = MemDoor::new(rt.alloc(), &[1, 4])?;
-    add_connection(rt.alloc(), &mut door, b"first")?;
-    add_connection(rt.alloc(), &mut door, b"2")?;
+    let mut coming = VecDeque::new(rt.alloc());
+    add_connection(rt.alloc(), &mut coming, b"first")?;
+    add_connection(rt.alloc(), &mut coming, b"2")?;
+    let mut door = MemDoor::new(rt.alloc(), coming, &[1, 4])?;
     assert_eq!(rt; door.open(80), Err(Failed));
     assert_eq!(rt; door.port(), None);
     assert_eq!(rt; door.open(8080), Ok(()));
