@@ -5,3 +5,4 @@ pub mod RecordLaws
 pub mod TextLaws
 pub mod LineLaws
 pub mod WrittenLaws
+pub mod HeightLaws

@@ -1,5 +1,5 @@
 -- Laws of sums of samples.
-use Rattle.std.proofs.Common.{◌≡◌, ◌∙◌, ℕ, ◌+◌, ◌-◌, ◌*◌, ◌<◌, ◌≤◌, ℤ, pos, neg_ℤ, ◌+ℤ◌, ◌-ℤ◌, ◌≤ℤ◌, List, [], ◌∷◌, ◌++◌, All, fold, get_or, length, take, drop, arith, ap, subst, sym, inl, inr, w64}
+use Rattle.std.proofs.Common.{◌≡◌, ◌∙◌, ℕ, ◌+◌, ◌-◌, ◌*◌, ◌<◌, ◌≤◌, ℤ, pos, neg_ℤ, ◌+ℤ◌, ◌-ℤ◌, ◌*ℤ◌, ◌≤ℤ◌, List, [], ◌∷◌, ◌++◌, All, fold, get_or, length, take, drop, arith, ap, subst, sym, inl, inr, w64}
 use Rattle.std.specs.Cmp.{signed_Decides}
 use Rattle.std.specs.Cmp.Lexicographic.{pointwise}
 use Rattle.std.specs.Ordering.{int_eq}
@@ -13,7 +13,7 @@ use Rattle.cds_trace.specs.Signal.{Signal, IsSample, IsTrace, sum_between, total
 use Rattle.cds_trace.specs.Sums.{AreSums}
 use Rattle.cds_trace.specs.Held.{IsHeld, signal_held}
 use Rattle.cds_trace.specs.declared.trace.Trace.TheInside.{Inside}
-use Rattle.cds_trace.specs.Limits.{most_samples}
+use Rattle.cds_trace.specs.declared.trace.TheConstants.{GREATEST_SAMPLE, MOST_SAMPLES}
 
 -- a sum that begins at a number is that number and the sum
 pub fold-from : (a : ℤ) (xs : List ℤ) → fold ◌+ℤ◌ a xs ≡ a +ℤ total xs
@@ -37,7 +37,7 @@ pub total-slice_range : (xs : List ℤ) (i j : ℕ) → i ≤ j → total (take 
 total-slice_range xs i j h = ap total (take-split xs i j h) ∙ total-append (take i xs) (slice_range xs i j)
 
 -- a sum of samples is at most the greatest sample for each, in absolute value
-pub total-bounds : (xs : List ℤ) → All IsSample xs → (neg_ℤ (pos (length xs * 100000000)) ≤ℤ total xs) × (total xs ≤ℤ pos (length xs * 100000000))
+pub total-bounds : (xs : List ℤ) → All IsSample xs → (neg_ℤ (pos (length xs) *ℤ GREATEST_SAMPLE) ≤ℤ total xs) × (total xs ≤ℤ (pos (length xs) *ℤ GREATEST_SAMPLE))
 total-bounds [] h = (omega (arith, ints), omega (arith, ints))
 total-bounds (x ∷ xs) h =
     let rest = total-bounds xs (All-tail IsSample x xs h) in
@@ -47,9 +47,9 @@ total-bounds (x ∷ xs) h =
 -- what the difference of two running sums is, and how large it is
 pub record IsSumBetween (signal : Signal) (i j : ℕ) (sum : ℤ) : Type 0 where
   pub value : sum ≡ sum_between signal i j
-  pub least : neg_ℤ (pos ((j - i) * 100000000)) ≤ℤ sum
-  pub greatest : sum ≤ℤ pos ((j - i) * 100000000)
-  pub few : j - i ≤ most_samples
+  pub least : neg_ℤ (pos (j - i) *ℤ GREATEST_SAMPLE) ≤ℤ sum
+  pub greatest : sum ≤ℤ (pos (j - i) *ℤ GREATEST_SAMPLE)
+  pub few : j - i ≤ MOST_SAMPLES
 
 -- the running sum at j less the one at i is the sum of the samples from i to j - 1
 pub sums-read : (xs sums : List ℤ) (period i j : ℕ) (a b : ℤ) → AreSums xs sums → IsTrace (record { period = period; samples = xs })
@@ -100,7 +100,7 @@ AreSums-more xs sums i sum h e are =
     le-cases k n h = grind arith
 
 -- a sum of the first samples fits
-pub total-fits : (xs : List ℤ) (i : ℕ) (sum : ℤ) → length xs ≤ most_samples → All IsSample xs → sum ≡ total (take i xs) → FitsSigned w64 sum
+pub total-fits : (xs : List ℤ) (i : ℕ) (sum : ℤ) → length xs ≤ MOST_SAMPLES → All IsSample xs → sum ≡ total (take i xs) → FitsSigned w64 sum
 total-fits xs i sum few range e =
     let size = length-take i xs in
     let bounds = total-bounds (take i xs) (All-take IsSample i xs range) in

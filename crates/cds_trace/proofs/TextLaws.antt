@@ -13,7 +13,8 @@ use Rattle.cds_trace.specs.Signal.{IsSample, IsTrace, Signal}
 use Rattle.cds_trace.specs.TraceText.{Fields, first_time, is_header, is_word_at, period_of, sample_before, sample_of, sample_of_numbers, samples_of, time_in_us, time_of, trace_of_rows, trace_of_samples, Reads}
 use Rattle.cds_trace.specs.declared.error.TraceError.{TraceError}
 use Rattle.cds_trace.specs.declared.error.TraceError.TheVariants.{BadCsv, NotNumber, TooLong}
-use Rattle.cds_trace.specs.Limits.{fewest_samples, most_samples, last_time}
+use Rattle.cds_base.specs.declared.time.TheConstants.{LAST_TIME_US}
+use Rattle.cds_trace.specs.declared.trace.TheConstants.{FEWEST_SAMPLES, MOST_SAMPLES}
 use Rattle.cds_trace.proofs.LimitLaws.{IsSample-test}
 
 -- the time of a record, by its first field
@@ -41,7 +42,7 @@ is_header-field_at (time ∷ signal ∷ []) = refl
 is_header-field_at (time ∷ signal ∷ more ∷ rest) = grind (arith, nat_tests)
 
 -- what two fields state
-pub sample_of-two : (period i : ℕ) (fields : Fields) → i < most_samples → length fields ≡ 2
+pub sample_of-two : (period i : ℕ) (fields : Fields) → i < MOST_SAMPLES → length fields ≡ 2
     → sample_of period i fields ≡ sample_of_numbers period i (option_and_then number_of (field_at fields 0)) (option_and_then number_of (field_at fields 1))
 unfolding field_at sample_of
 sample_of-two period i [] h two = absurd (omega arith)
@@ -50,18 +51,18 @@ sample_of-two period i (time ∷ sample ∷ []) h two = grind (arith, nat_tests)
 sample_of-two period i (time ∷ sample ∷ more ∷ rest) h two = absurd (omega arith)
 
 -- no time
-pub sample_of-no_time : (period i : ℕ) (fields : Fields) → i < most_samples → length fields ≡ 2 → option_and_then number_of (field_at fields 0) ≡ None
+pub sample_of-no_time : (period i : ℕ) (fields : Fields) → i < MOST_SAMPLES → length fields ≡ 2 → option_and_then number_of (field_at fields 0) ≡ None
     → sample_of period i fields ≡ Err (NotNumber (i + 2))
 sample_of-no_time period i fields h two none = rw none at (sample_of-two period i fields h two)
 
 -- no sample
-pub sample_of-no_sample : (period i : ℕ) (fields : Fields) (time : ℤ) → i < most_samples → length fields ≡ 2
+pub sample_of-no_sample : (period i : ℕ) (fields : Fields) (time : ℤ) → i < MOST_SAMPLES → length fields ≡ 2
     → option_and_then number_of (field_at fields 0) ≡ Some time → option_and_then number_of (field_at fields 1) ≡ None
     → sample_of period i fields ≡ Err (NotNumber (i + 2))
 sample_of-no_sample period i fields time h two some none = rw (some, none) at (sample_of-two period i fields h two)
 
 -- another number of fields than two
-pub sample_of-other : (period i : ℕ) (fields : Fields) → i < most_samples → (length fields ≡ 2 → ⊥) → sample_of period i fields ≡ Err (BadCsv (i + 2))
+pub sample_of-other : (period i : ℕ) (fields : Fields) → i < MOST_SAMPLES → (length fields ≡ 2 → ⊥) → sample_of period i fields ≡ Err (BadCsv (i + 2))
 unfolding sample_of
 sample_of-other period i [] h other = grind (arith, nat_tests)
 sample_of-other period i (time ∷ []) h other = grind (arith, nat_tests)
@@ -69,7 +70,7 @@ sample_of-other period i (time ∷ sample ∷ []) h other = absurd (other refl)
 sample_of-other period i (time ∷ sample ∷ more ∷ rest) h other = grind (arith, nat_tests)
 
 -- a record too many
-sample_of-long : (period i : ℕ) (fields : Fields) → most_samples ≤ i → sample_of period i fields ≡ Err TooLong
+sample_of-long : (period i : ℕ) (fields : Fields) → MOST_SAMPLES ≤ i → sample_of period i fields ≡ Err TooLong
 unfolding sample_of
 sample_of-long period i fields h = grind (arith, nat_tests)
 
@@ -157,12 +158,12 @@ samples_of-last whole i samples all h = h ∙ ap Ok (append-nil samples)
 
 -- what a record that states a sample of index i keeps to
 record KeepsLimits (period i : ℕ) (sample : ℤ) : Type 0 where
-  few : i < most_samples
+  few : i < MOST_SAMPLES
   range : IsSample sample
-  time : i * period ≤ last_time
+  time : i * period ≤ LAST_TIME_US
   ticking : 1 ≤ i → 1 ≤ period
 
-sample_of_numbers-limits : (period i : ℕ) (a b : Option ℤ) (sample : ℤ) → i < most_samples → sample_of_numbers period i a b ≡ Ok sample → KeepsLimits period i sample
+sample_of_numbers-limits : (period i : ℕ) (a b : Option ℤ) (sample : ℤ) → i < MOST_SAMPLES → sample_of_numbers period i a b ≡ Ok sample → KeepsLimits period i sample
 sample_of_numbers-limits period i None b sample few h = absurd (cc h)
 sample_of_numbers-limits period i (Some a) None sample few h = absurd (cc h)
 sample_of_numbers-limits period i (Some (negsuc a)) (Some b) sample few h = absurd (grind arith)
@@ -177,9 +178,9 @@ sample_of-limits : (period i : ℕ) (fields : Fields) (sample : ℤ) → sample_
 unfolding sample_of
 sample_of-limits period i [] sample h = absurd (grind (arith, nat_tests))
 sample_of-limits period i (time ∷ []) sample h = absurd (grind (arith, nat_tests))
-sample_of-limits period i (time ∷ signal ∷ []) sample h = by (nat_le most_samples i) refl h
+sample_of-limits period i (time ∷ signal ∷ []) sample h = by (nat_le MOST_SAMPLES i) refl h
   where
-    by : (b : Bool) → nat_le most_samples i ≡ b → (if b then Err TooLong else sample_of_numbers period i (number_of time) (number_of signal)) ≡ Ok sample
+    by : (b : Bool) → nat_le MOST_SAMPLES i ≡ b → (if b then Err TooLong else sample_of_numbers period i (number_of time) (number_of signal)) ≡ Ok sample
         → KeepsLimits period i sample
     by true e h = absurd (cc h)
     by false e h = sample_of_numbers-limits period i (number_of time) (number_of signal) sample (grind (arith, nat_tests)) h
@@ -188,8 +189,8 @@ sample_of-limits period i (time ∷ signal ∷ more ∷ rest) sample h = absurd 
 -- what the samples from index i on keep to
 record KeepLimits (period i : ℕ) (samples : List ℤ) : Type 0 where
   range : All IsSample samples
-  few : 0 < length samples → i + length samples ≤ most_samples
-  last : 0 < length samples → (i + length samples - 1) * period ≤ last_time
+  few : 0 < length samples → i + length samples ≤ MOST_SAMPLES
+  last : 0 < length samples → (i + length samples - 1) * period ≤ LAST_TIME_US
   ticking : 0 < length samples → 2 ≤ i + length samples → 1 ≤ period
 
 KeepLimits-cons : (period i : ℕ) (sample : ℤ) (samples : List ℤ) → KeepsLimits period i sample → KeepLimits period (i + 1) samples → KeepLimits period i (sample ∷ samples)
@@ -223,7 +224,7 @@ samples_of-limits period i (fields ∷ rest) samples h =
         rw (← all) (KeepLimits-cons period i a xs (sample_of-limits period i fields a one) (keep xs rest_is))
 
 -- stated samples, at least two, are those of a trace
-pub samples_of-IsTrace : (period : ℕ) (rows : List Fields) (samples : List ℤ) → samples_of period 0 rows ≡ Ok samples → fewest_samples ≤ length samples
+pub samples_of-IsTrace : (period : ℕ) (rows : List Fields) (samples : List ℤ) → samples_of period 0 rows ≡ Ok samples → FEWEST_SAMPLES ≤ length samples
     → IsTrace (record { period = period; samples = samples })
 samples_of-IsTrace period rows samples h two =
     let keep = samples_of-limits period 0 rows samples h in
@@ -265,7 +266,7 @@ IsTold-wrong rows i period samples rest fields left e told front wrong =
 
 -- a record too many
 pub IsTold-long : (rows : List Fields) (i period : ℕ) (samples : List ℤ) (rest : List Fields) (fields : Fields) (left : List Fields)
-    → IsTold rows i period samples rest → rest ≡ fields ∷ left → most_samples ≤ i → trace_of_rows rows ≡ Err TooLong
+    → IsTold rows i period samples rest → rest ≡ fields ∷ left → MOST_SAMPLES ≤ i → trace_of_rows rows ≡ Err TooLong
 IsTold-long rows i period samples rest fields left told front long =
     IsTold-wrong rows i period samples rest fields left TooLong told front (sym (sample_of-long (period_at period i fields) i fields long))
 
@@ -278,7 +279,7 @@ IsTold-last rows i period samples rest told none =
     rw (whole, all) refl
 
 pub IsTold-IsTrace : (rows : List Fields) (i period : ℕ) (samples : List ℤ) (rest : List Fields) → IsTold rows i period samples rest → rest ≡ []
-    → fewest_samples ≤ length samples → IsTrace (record { period = period; samples = samples })
+    → FEWEST_SAMPLES ≤ length samples → IsTrace (record { period = period; samples = samples })
 IsTold-IsTrace rows i period samples rest told none two =
     let whole = Knows-last i period (period_of rows) (rw none at told.known) in
     rw whole (samples_of-IsTrace (period_of rows) rows samples (samples_of-last (period_of rows) i samples _ (rw none at told.stated)) two)

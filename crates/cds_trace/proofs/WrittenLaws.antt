@@ -14,7 +14,8 @@ use Rattle.std.proofs.lemmas.List.Elements.{All-head, All-tail}
 use Rattle.std.proofs.lemmas.List.Sums.{AllPass-from_list_all, suffix_len_is}
 use Rattle.csv.specs.Reading.{default_config, records, records_from, strip_bom}
 use Rattle.csv.specs.declared.parser.State.TheVariants as st
-use Rattle.cds_trace.specs.Limits.{last_time, most_samples}
+use Rattle.cds_base.specs.declared.time.TheConstants.{LAST_TIME_US}
+use Rattle.cds_trace.specs.declared.trace.TheConstants.{MOST_SAMPLES}
 use Rattle.cds_trace.specs.Number.{digits_number, is_blank, number_of, without_blanks}
 use Rattle.cds_trace.specs.Signal.{IsSample, IsTrace, Signal}
 use Rattle.cds_trace.specs.TraceText.{Fields, csv_trace, period_of, sample_of, samples_of}
@@ -116,8 +117,8 @@ rows_of period i (sample ∷ rest) = row_of (i * period) sample ∷ rows_of peri
 -- samples from index i on that keep the limits of a trace
 record AreWritable (period i : ℕ) (samples : List ℤ) : Type 0 where
   range : All IsSample samples
-  few : i + length samples ≤ most_samples
-  times : (k : ℕ) → k < i + length samples → k * period ≤ last_time
+  few : i + length samples ≤ MOST_SAMPLES
+  times : (k : ℕ) → k < i + length samples → k * period ≤ LAST_TIME_US
   ticking : 1 ≤ period
 
 AreWritable-tail : (period i : ℕ) (sample : ℤ) (rest : List ℤ) → AreWritable period i (sample ∷ rest) → AreWritable period (i + 1) rest
@@ -152,7 +153,7 @@ records_from-lines_of period i (sample ∷ rest) h =
     ∙ ap (λ (rows : List Fields). row_of (i * period) sample ∷ rows) (records_from-lines_of period (i + 1) rest (AreWritable-tail period i sample rest h))
 
 -- the record of a sample states the sample
-sample_of-row_of : (period i : ℕ) (sample : ℤ) → i < most_samples → i * period ≤ last_time → 1 ≤ period → IsSample sample → sample_of period i (row_of (i * period) sample) ≡ Ok sample
+sample_of-row_of : (period i : ℕ) (sample : ℤ) → i < MOST_SAMPLES → i * period ≤ LAST_TIME_US → 1 ≤ period → IsSample sample → sample_of period i (row_of (i * period) sample) ≡ Ok sample
 unfolding sample_of
 sample_of-row_of period i sample few time ticking h =
     rw (number_of-decimal (i * period) (omega arith), number_of-signed_decimal sample h) (grind (arith, nat_tests, ints, h.least, h.greatest))

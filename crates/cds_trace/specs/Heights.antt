@@ -1,8 +1,13 @@
--- The height of a signal over a straight line. It is a fraction over a divisor that the line alone gives, so it is stated
--- here as a whole number, times that divisor. This project's own rule.
+-- Straight lines below a signal: chords, levels, and the height of the signal over a line. Levels and heights are
+-- fractions over a divisor that the line alone gives, so they are stated here as whole numbers, times that divisor. This
+-- project's own rule.
 use Rattle.std.specs.Prelude.{ℕ, ◌-◌, ℤ, pos, ◌+ℤ◌, ◌-ℤ◌, ◌*ℤ◌}
 use Rattle.cds_base.specs.declared.peak.Line.{Line}
 use Rattle.cds_trace.specs.Signal.{Signal, sample_at}
+
+-- the straight line from one sample of the signal to another
+abbrev pub chord : Signal → ℕ → ℕ → Line
+chord signal a b = record { from = a; from_y = sample_at signal a; to = b; to_y = sample_at signal b }
 
 -- how many samples lie from one end of a line to the other
 abbrev pub span : Line → ℕ

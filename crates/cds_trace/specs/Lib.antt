@@ -1,4 +1,3 @@
-pub mod Limits
 pub mod Signal
 pub mod Sums
 pub mod Held
@@ -12,3 +11,4 @@ pub mod WrittenText
 pub mod SampleBytes
 pub mod Heights
 pub mod Extremes
+pub mod Standing

@@ -3,7 +3,7 @@ use Rattle.std.specs.Prelude.{ℕ, ◌-◌, Bool, ◌&&◌, ◌||◌, ◌==◌, 
 use Rattle.std.specs.Char.{is_ascii_digit}
 use Rattle.std.specs.List.{list_all, prefix_len, suffix_len}
 use Rattle.std.specs.Str.Parse.{digits_value, starts_with_minus}
-use Rattle.cds_trace.specs.Limits.{most_digits}
+use Rattle.cds_trace.specs.declared.number.TheConstants.{MOST_DIGITS}
 
 -- a space or a tab
 abbrev pub is_blank : ℕ → Bool
@@ -23,7 +23,7 @@ without_blanks bytes = without_last_blanks (without_first_blanks bytes)
 
 -- 1 to 12 digits
 abbrev pub is_digits : List ℕ → Bool
-is_digits bytes = (nat_le 1 (length bytes) && nat_le (length bytes) most_digits) && list_all is_ascii_digit bytes
+is_digits bytes = (nat_le 1 (length bytes) && nat_le (length bytes) MOST_DIGITS) && list_all is_ascii_digit bytes
 
 -- the number that 1 to 12 digits write
 abbrev pub digits_number : List ℕ → Option ℕ

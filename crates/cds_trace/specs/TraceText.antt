@@ -7,7 +7,8 @@ use Rattle.cds_trace.specs.Number.{number_of, without_blanks}
 use Rattle.cds_trace.specs.Signal.{Signal}
 use Rattle.cds_trace.specs.declared.error.TraceError.{TraceError}
 use Rattle.cds_trace.specs.declared.error.TraceError.TheVariants.{BadCsv, BadHeader, NotNumber, Uneven, TooShort, TooLong, OutOfRange, NoMemory}
-use Rattle.cds_trace.specs.Limits.{fewest_samples, most_samples, greatest_sample, last_time}
+use Rattle.cds_base.specs.declared.time.TheConstants.{LAST_TIME_US}
+use Rattle.cds_trace.specs.declared.trace.TheConstants.{FEWEST_SAMPLES, GREATEST_SAMPLE, MOST_SAMPLES}
 
 -- a record: the bytes of each of its fields
 abbrev pub Fields : Type 0
@@ -35,11 +36,11 @@ is_header (time ∷ signal ∷ more ∷ rest) = false
 
 -- a time within the limits of a trace
 abbrev pub is_time : ℤ → Bool
-is_time time = int_le (pos 0) time && int_le time (pos last_time)
+is_time time = int_le (pos 0) time && int_le time (pos LAST_TIME_US)
 
 -- a sample within the limits of a trace
 abbrev pub is_sample : ℤ → Bool
-is_sample sample = int_le (neg_ℤ greatest_sample) sample && int_le sample greatest_sample
+is_sample sample = int_le (neg_ℤ GREATEST_SAMPLE) sample && int_le sample GREATEST_SAMPLE
 
 -- the time of the sample of index i is i periods, and the period, which the second sample gives, is not 0
 abbrev pub is_expected : ℕ → ℕ → ℤ → Bool
@@ -64,7 +65,7 @@ sample_of_fields period i (time ∷ sample ∷ more ∷ rest) = Err (BadCsv (rec
 
 -- the sample of index i that a record states under a period, or what is wrong with the record
 unfoldable pub sample_of : ℕ → ℕ → Fields → Result ℤ TraceError
-sample_of period i fields = if nat_le most_samples i then Err TooLong else sample_of_fields period i fields
+sample_of period i fields = if nat_le MOST_SAMPLES i then Err TooLong else sample_of_fields period i fields
 
 -- a sample before more samples, where nothing is wrong with it or with them; what is wrong with it comes first
 abbrev pub sample_before : Result ℤ TraceError → Result (List ℤ) TraceError → Result (List ℤ) TraceError
@@ -103,7 +104,7 @@ period_of (fields ∷ rest) = first_time rest
 abbrev pub trace_of_samples : ℕ → Result (List ℤ) TraceError → Result Signal TraceError
 trace_of_samples period (Err e) = Err e
 trace_of_samples period (Ok samples) =
-    if nat_lt (length samples) fewest_samples then Err TooShort else Ok (record { period = period; samples = samples })
+    if nat_lt (length samples) FEWEST_SAMPLES then Err TooShort else Ok (record { period = period; samples = samples })
 
 -- the trace that the records behind the header state, or what is wrong with them
 abbrev pub trace_of_rows : List Fields → Result Signal TraceError

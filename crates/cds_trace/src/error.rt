@@ -1,3 +1,4 @@
+//! Why bytes or samples are no trace.
 use std::alloc::{AllocError, AllocFailed};
 use thiserror::Error;
 
@@ -21,8 +22,8 @@ pub enum TraceError {
     /// There are fewer than two samples.
     #[error("there are fewer than two samples")]
     TooShort,
-    /// There are more than 100,000 samples.
-    #[error("there are more than 100000 samples")]
+    /// There are more than 400,000 samples.
+    #[error("there are more than 400000 samples")]
     TooLong,
     /// A time is below 0 or above 14,400,000,000 microseconds, or a sample is below -100,000,000 or above
     /// 100,000,000.

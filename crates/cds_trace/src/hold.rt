@@ -1,3 +1,4 @@
+//! Equal traces, and the bytes of a trace in a record of a store.
 ghost use Rattle.std.specs.Prelude.{◌≡◌, ◌↔◌, ◌++◌, IfOk, IsTrue, OnOk};
 ghost use Rattle.cds_trace.specs.SampleBytes.{bytes_of_sample, bytes_of_samples};
 

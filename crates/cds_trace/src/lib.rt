@@ -1,19 +1,23 @@
 //! Detector traces: samples of a signal, one in each period, their reads, which are counted, and their CSV.
 //!
 //! Begin at [`Trace`]: it is made by [`Trace::read_csv`] or [`Trace::from_samples`], and read by [`Trace::at`] and
-//! [`Trace::sum`].
+//! [`Trace::sum`]. [`chord`], [`level_by_span`] and [`height_by_span`] are the straight lines below a signal.
 #![tactic(auto)]
 
 mod error;
 mod hold;
+mod laws;
+mod lines;
 mod number;
 mod read;
 mod trace;
 mod write;
 
 pub use error::TraceError;
+pub use laws::the_limits;
+pub use lines::{chord, height_by_span, level_by_span};
 pub use number::MOST_DIGITS;
-pub use trace::{FEWEST_SAMPLES, GREATEST_SAMPLE, LAST_TIME_US, MOST_SAMPLES, Trace};
+pub use trace::{FEWEST_SAMPLES, GREATEST_SAMPLE, MOST_SAMPLES, Trace};
 
 #[cfg(test)]
 mod tests;

@@ -1,3 +1,4 @@
+//! A field of the text of a trace as a number.
 ghost use Rattle.std.specs.Prelude.{◌≡◌, ◌<◌, ◌^◌, IfSome, length, ◌≤◌, ◌≤ℤ◌, pos, neg_ℤ};
 ghost use Rattle.std.specs.List.{prefix_len, suffix_len};
 ghost use Rattle.cds_trace.specs.Number.{digits_number, is_blank, number_of, signed_number, without_blanks};

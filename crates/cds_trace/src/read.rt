@@ -1,3 +1,4 @@
+//! Reading the text of a trace.
 ghost use Rattle.std.specs.Prelude.{◌≡◌, ◌+◌, ◌*◌, ◌^◌, ◌<◌, ◌≤◌, ◌∷◌, [], true, false, length, pos, neg_ℤ, ◌≤ℤ◌, IfOk, IfErr, IfSome, Some, Ok, option_and_then};
 ghost use Rattle.csv.specs.Reading.{error_kind, stops_reader};
 ghost use Rattle.csv.specs.Records.{field_at, fields_of};
@@ -10,7 +11,8 @@ ghost use Rattle.cds_trace.specs.declared.error.TraceError.TheVariants.{NoMemory
 
 use crate::error::TraceError;
 use crate::number::{number, without_blanks};
-use crate::trace::{FEWEST_SAMPLES, LAST_TIME_US, MOST_SAMPLES, Trace, is_sample};
+use crate::trace::{FEWEST_SAMPLES, MOST_SAMPLES, Trace, is_sample};
+use cds_base::LAST_TIME_US;
 use csv::{ByteRecord, Reader, ReaderBuilder};
 use std::alloc::Global;
 
@@ -24,7 +26,7 @@ impl Trace {
     /// `-` and 1 to 12 digits. The first time is 0, the second is the period, and the others are its multiples.
     ///
     /// The first record that breaks a rule decides, and then the first rule of: BadHeader where the first record is
-    /// not the header, or there is none; TooLong for a record that would be sample 100,001; BadCsv where it has not
+    /// not the header, or there is none; TooLong for a record that would be sample 400,001; BadCsv where it has not
     /// two fields; NotNumber where a field is no number; OutOfRange where the time is below 0 or above
     /// 14,400,000,000 or the sample below -100,000,000 or above 100,000,000; Uneven where the time is not the
     /// expected one, or is a second time of 0. Behind all records, fewer than two samples are TooShort. The format

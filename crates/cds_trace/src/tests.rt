@@ -1,3 +1,4 @@
+//! What no clause says: texts and samples that are worked by hand, and the edges of the limits.
 ghost use Rattle.std.specs.Prelude.{◌≡◌, ◌<◌, ◌≤◌, length};
 
 use super::*;
@@ -122,18 +123,18 @@ fn zeros(alloc: Global, samples: usize) -> Result<Vec<i32>, Fail> {
 }
 
 #[test]
-fn more_than_100_000_samples_are_too_long(rt: HostRuntime) -> Result<(), Fail> {
+fn more_than_400_000_samples_are_too_long(rt: HostRuntime) -> Result<(), Fail> {
     let alloc = rt.alloc();
-    for (samples, number) in [(100_000, 0), (100_001, 6)] {
+    for (samples, number) in [(400_000, 0), (400_001, 6)] {
         let given = zeros(alloc, samples)?;
         let got = told(Trace::from_samples(alloc, 1, given.as_slice()));
         assert_eq!(rt; got, (number, 0), "for {samples}");
     }
     for (samples, last, number, record) in [
-        (100_000, "", 0, 0),
-        (100_000, "100000,0\n", 6, 0),
-        (100_000, "100000,0,0\n", 6, 0),
-        (99_999, "99999,0,0\n", 1, 100_001),
+        (400_000, "", 0, 0),
+        (400_000, "400000,0\n", 6, 0),
+        (400_000, "400000,0,0\n", 6, 0),
+        (399_999, "399999,0,0\n", 1, 400_001),
     ] {
         let text = text_of_zeros(alloc, samples, last)?;
         let got = told(Trace::read_csv(alloc, text.as_bytes()));

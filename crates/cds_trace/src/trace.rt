@@ -1,11 +1,12 @@
-ghost use Rattle.std.specs.Prelude.{◌≡◌, ◌+◌, ◌-◌, ◌*◌, ◌<◌, ◌≤◌, pos, neg_ℤ, ◌≤ℤ◌, All, IfOk, IfSome, length, not, position};
+//! A detector trace: how it is made and read.
+ghost use Rattle.std.specs.Prelude.{◌≡◌, ◌+◌, ◌-◌, ◌*◌, ◌<◌, ◌≤◌, pos, neg_ℤ, ◌*ℤ◌, ◌≤ℤ◌, All, IfOk, IfSome, length, not, position};
 ghost use Rattle.cds_trace.specs.Signal.{sample_at, sum_between, IsSample, IsTrace};
 ghost use Rattle.cds_trace.specs.TraceText.{is_sample, Reads};
 ghost use Rattle.cds_trace.specs.GivenSamples.{given_trace};
 ghost use Rattle.cds_trace.specs.Sums.{AreSums};
 
 use crate::error::TraceError;
-use cds_base::Steps;
+use cds_base::{LAST_TIME_US, Steps};
 use std::alloc::{AllocError, Global};
 use std::marker::Model;
 use std::sync::ledger::Ledger;
@@ -14,15 +15,12 @@ use std::sync::ledger::Ledger;
 pub const FEWEST_SAMPLES: u32 = 2;
 
 /// The most samples of a trace.
-pub const MOST_SAMPLES: u32 = 100_000;
+pub const MOST_SAMPLES: u32 = 400_000;
 
 /// The greatest sample, in counts; the least is its negative.
 pub const GREATEST_SAMPLE: i32 = 100_000_000;
 
-/// The latest time that the last sample may have, in microseconds: four hours.
-pub const LAST_TIME_US: u64 = 14_400_000_000;
-
-/// A detector trace: 2 to 100,000 samples from -100,000,000 to 100,000,000, one in each period of at least 1
+/// A detector trace: 2 to 400,000 samples from -100,000,000 to 100,000,000, one in each period of at least 1
 /// microsecond, from the time 0 to at most 14,400,000,000 microseconds. The limits are this project's own. Seen as
 /// its period and its list of samples. Sums of samples are read off running sums, which the trace keeps.
 #[derive(Debug, Drop)]
@@ -46,7 +44,7 @@ impl Model for Trace {
 
 impl Trace {
     /// The trace of these samples, one in each `period` microseconds. It is refused with TooLong where there are
-    /// more than 100,000 samples, else with TooShort where there are fewer than two, else with BadPeriod where the
+    /// more than 400,000 samples, else with TooShort where there are fewer than two, else with BadPeriod where the
     /// period is 0 or the time of the last sample is above 14,400,000,000 microseconds, else with OutOfRange where
     /// a sample is below -100,000,000 or above 100,000,000; OutOfRange carries the index of the first such sample
     /// plus 2, which would be its record in a text. The order is this project's own.
@@ -85,7 +83,7 @@ impl Trace {
         })
     }
 
-    /// How many samples there are, 2 to 100,000.
+    /// How many samples there are, 2 to 400,000.
     pub fn len(&self) -> u32
         ensures value { result ≡ length self.now.samples }
         ensures trace { IsTrace self.now }
@@ -141,8 +139,8 @@ impl Trace {
         requires order { i ≤ j }
         requires end { j ≤ length self.now.samples }
         ensures value { result ≡ sum_between self.now i j }
-        ensures least { neg_ℤ (pos ((j - i) * 100000000)) ≤ℤ result }
-        ensures greatest { result ≤ℤ pos ((j - i) * 100000000) }
+        ensures least { neg_ℤ (pos (j - i) *ℤ GREATEST_SAMPLE) ≤ℤ result }
+        ensures greatest { result ≤ℤ (pos (j - i) *ℤ GREATEST_SAMPLE) }
         ensures counted { steps.new ≡ steps.old + 2 }
     {
         steps.tick();

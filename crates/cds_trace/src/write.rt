@@ -1,3 +1,4 @@
+//! Writing the text of a trace.
 ghost use Rattle.std.specs.Prelude.{◌≡◌, ◌++◌, ◌*◌, ◌<◌, IfOk, Ok, OnOk};
 ghost use Rattle.cds_trace.specs.TraceText.{csv_trace};
 ghost use Rattle.cds_trace.specs.WrittenText.{csv_text, line_of};
