@@ -11,7 +11,8 @@ use Rattle.cds_trace.specs.Signal.{Signal, IsSample, IsTrace, sample_at, sum_bet
 use Rattle.cds_trace.specs.declared.trace.TheConstants.{GREATEST_SAMPLE}
 use Rattle.cds_trace.specs.Heights.{span, level_by_span, height_by_span}
 use Rattle.cds_area.specs.Area.{sum_over, trapezoid, area_by_double_span}
-use Rattle.cds_area.proofs.LineLaws.{add-mul, neg-mul, level-next, abs-level-le, abs-mul-le}
+use Rattle.cds_area.proofs.LineLaws.{add-mul, neg-mul, level-next, abs-level-le}
+use Rattle.cds_trace.proofs.HeightLaws.{abs-mul-le}
 
 -- a sum over some indices and the next ones is the sum over all
 pub sum_over-split : (f : ℕ → ℤ) (start m n : ℕ) → sum_over f start (m + n) ≡ sum_over f start m +ℤ sum_over f (start + m) n

@@ -1,15 +1,11 @@
 -- Laws of products, and of the level of a line.
 use Rattle.std.proofs.Common.{◌≡◌, ℕ, ◌+◌, ◌-◌, ◌*◌, ◌<◌, ◌≤◌, ℤ, pos, ◌+ℤ◌, ◌-ℤ◌, ◌*ℤ◌, neg_ℤ, ap, arith}
 use Rattle.std.specs.Prelude.{unsigned_abs}
-use Rattle.std.proofs.lemmas.Int.{ints, unsigned_abs-mul}
+use Rattle.std.proofs.lemmas.Int.{ints}
 use borrow.Author.Differences.{sum_is_lem, neg_is}
-use Rattle.std.proofs.Math.Nat.{mul-le-mul_right}
 use Rattle.cds_base.specs.declared.peak.Line.{Line}
 use Rattle.cds_trace.specs.Heights.{span, level_by_span}
-
--- a product with a whole number is at most the bound times that number
-pub abs-mul-le : (z : ℤ) (n most : ℕ) → unsigned_abs z ≤ most → unsigned_abs (z *ℤ pos n) ≤ most * n
-abs-mul-le z n most h = rw unsigned_abs-mul (mul-le-mul_right n h)
+use Rattle.cds_trace.proofs.HeightLaws.{abs-mul-le}
 
 -- a product of a sum and of a negative number
 pub add-mul : (a b : ℤ) (n : ℕ) → (a +ℤ b) *ℤ pos n ≡ a *ℤ pos n +ℤ b *ℤ pos n

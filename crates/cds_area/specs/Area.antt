@@ -1,6 +1,7 @@
 -- Heights and areas of a signal over a straight line. Both are fractions over a divisor that the line alone gives, so
 -- they are stated here as whole numbers, times that divisor. This project's own rules.
 use Rattle.std.specs.Prelude.{◌≡◌, ℕ, zero, suc, ◌+◌, ◌-◌, ◌*◌, ◌/◌, ℤ, pos, ◌+ℤ◌, ◌*ℤ◌, nat_abs}
+use Rattle.cds_base.specs.declared.time.TheConstants.{MILLISECOND_US}
 use Rattle.cds_base.specs.declared.peak.Line.{Line}
 use Rattle.cds_base.specs.declared.peak.Ratio.{Ratio}
 use Rattle.cds_trace.specs.Signal.{Signal}
@@ -25,4 +26,4 @@ area_by_double_span signal line start end = sum_over (trapezoid signal line) sta
 
 -- the reported area of an area that isn't negative: area * period / 1000, rounded down
 abbrev pub units_of : Ratio → ℕ → ℕ
-units_of area period = nat_abs area.num * period / (1000 * area.den)
+units_of area period = nat_abs area.num * period / (MILLISECOND_US * area.den)

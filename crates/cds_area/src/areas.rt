@@ -1,12 +1,12 @@
+//! The area of a range over a straight line.
 ghost use Rattle.std.specs.Prelude.{◌≡◌, ◌+◌, ◌-◌, ◌*◌, ◌^◌, ◌<◌, ◌≤◌, ℕ, pos, ◌+ℤ◌, ◌-ℤ◌, ◌*ℤ◌, ◌≤ℤ◌, length, unsigned_abs};
 ghost use Rattle.cds_trace.specs.Signal.{sample_at, sum_between};
 ghost use Rattle.cds_trace.specs.declared.trace.TheConstants.{GREATEST_SAMPLE};
 ghost use Rattle.cds_trace.specs.Heights.{span, level_by_span};
 ghost use Rattle.cds_area.specs.Area.{area_by_double_span, IsRatio};
 
-use crate::levels::{level_by_span, wide_product};
 use cds_base::{Line, Ratio, Steps};
-use cds_trace::Trace;
+use cds_trace::{Trace, level_by_span};
 use std::sync::ledger::Ledger;
 
 /// A sum of samples less its last one, and the same sum less its first one, together.
@@ -84,4 +84,12 @@ pub fn area<L: Ledger>(
         num: excess(sides, span, levels(line, start, end), end - start),
         den: 2 * u64::from(span),
     }
+}
+
+/// A sum of counts times a number of samples.
+fn wide_product(counts: i64, samples: u32) -> i128
+    ensures value { result ≡ counts *ℤ pos samples }
+    ensures small { unsigned_abs result ≤ 2 ^ 63 * samples }
+{
+    i128::from(counts) * i128::from(samples)
 }

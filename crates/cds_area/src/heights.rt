@@ -1,10 +1,11 @@
-ghost use Rattle.std.specs.Prelude.{◌≡◌, ◌+◌, ◌-◌, ◌^◌, ◌<◌, ◌≤◌, length, unsigned_abs};
+//! The height of the signal over a straight line at one sample.
+ghost use Rattle.std.specs.Prelude.{◌≡◌, ◌+◌, ◌<◌, ◌≤◌, length, unsigned_abs};
+ghost use Rattle.cds_base.specs.declared.peak.TheConstants.{HEIGHT_LIMIT};
 ghost use Rattle.cds_trace.specs.Heights.{span, height_by_span};
 ghost use Rattle.cds_area.specs.Area.{IsRatio};
 
-use crate::levels::{level_by_span, product};
 use cds_base::{Line, Ratio, Steps};
-use cds_trace::Trace;
+use cds_trace::{Trace, height_by_span};
 use std::sync::ledger::Ledger;
 
 /// The height at the sample `i`: the signal minus the line there, in counts, as an exact fraction over the line's
@@ -19,15 +20,11 @@ pub fn height<L: Ledger>(i: u32, line: &Line, trace: &Trace, steps: &mut Steps<L
     ensures value { IsRatio result (height_by_span trace.now line.now i) (span line.now) }
     ensures numerator { result.num ≡ height_by_span trace.now line.now i }
     ensures divisor { result.den ≡ span line.now }
-    ensures small { unsigned_abs result.num < 2 ^ 60 }
+    ensures small { unsigned_abs result.num < HEIGHT_LIMIT }
     ensures counted { steps.new ≡ steps.old + 1 }
 {
-    let samples = trace.len();
-    prove!(line.to < samples);
-    let span = line.to - line.from;
-    let signal = product(trace.at(i, steps), span);
     Ratio {
-        num: i128::from(signal - level_by_span(line, i)),
-        den: u64::from(span),
+        num: i128::from(height_by_span(i, line, trace, steps)),
+        den: u64::from(line.to - line.from),
     }
 }

@@ -6,7 +6,6 @@
 
 mod areas;
 mod heights;
-mod levels;
 mod reported;
 
 pub use areas::area;

@@ -1,3 +1,4 @@
+//! Areas and heights that are worked by hand.
 ghost use Rattle.std.specs.Prelude.{◌≡◌, ◌<◌};
 
 use super::*;

@@ -3,8 +3,8 @@ use Rattle.std.proofs.lemmas.Grind.{common_steps}
 use Rattle.std.proofs.lemmas.Int.{ints}
 use mir.Syntax.{w128}
 use mir.Val.{to_z, of_z}
-use Rattle.cds_area.proofs.LineLaws.{abs-mul-le}
-use Rattle.cds_area.proofs.levels.wide_product.Goals as goal
+use Rattle.cds_trace.proofs.HeightLaws.{abs-mul-le}
+use Rattle.cds_area.proofs.areas.wide_product.Goals as goal
 
 pub returns-clause-small : goal.returns-clause-small
 returns-clause-small c =
