@@ -1,12 +1,8 @@
 -- Laws of products and of shares of a period.
 use Rattle.std.proofs.Common.{◌≡◌, ℕ, ◌*◌, ◌/◌, ◌<◌, ◌≤◌, true, false, ℤ, pos, negsuc, ◌*ℤ◌, ◌≤ℤ◌, ◌<ℤ◌, arith}
-use Rattle.std.specs.Prelude.{unsigned_abs, int_le}
-use Rattle.std.proofs.lemmas.Int.{ints, unsigned_abs-mul}
-use Rattle.std.proofs.Math.Nat.{mul-le-mul_right, mul-le-mul_left, mul-lt-mul_of_pos_left, div-le_of_le-mul, div-lt_iff_lt-mul}
-
--- a product with a whole number is at most the bound times that number
-pub abs-mul-le : (z : ℤ) (n most : ℕ) → unsigned_abs z ≤ most → unsigned_abs (z *ℤ pos n) ≤ most * n
-abs-mul-le z n most h = rw unsigned_abs-mul (mul-le-mul_right n h)
+use Rattle.std.specs.Prelude.{int_le}
+use Rattle.std.proofs.lemmas.Int.{ints}
+use Rattle.std.proofs.Math.Nat.{mul-le-mul_left, mul-lt-mul_of_pos_left, div-le_of_le-mul, div-lt_iff_lt-mul}
 
 -- a part of a whole is at most the whole
 pub part-le : (p a b : ℕ) → a ≤ b → p * a / b ≤ p

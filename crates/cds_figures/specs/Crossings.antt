@@ -7,6 +7,7 @@ use Rattle.std.specs.List.{range_with_len, find}
 use Rattle.cds_base.specs.declared.peak.Line.{Line}
 use Rattle.cds_trace.specs.Signal.{Signal}
 use Rattle.cds_trace.specs.Heights.{height_by_span}
+use Rattle.cds_figures.specs.declared.widths.TheConstants.{TWENTIETHS}
 
 -- the greatest of `count` numbers in a row, the first of which is `from`, that passes the test, if one does
 abbrev pub last_passing : (ℕ → Bool) → ℕ → ℕ → Option ℕ
@@ -17,9 +18,9 @@ last_passing test from (suc count) = if test (from + count) then Some (from + co
 abbrev pub first_passing : (ℕ → Bool) → ℕ → ℕ → Option ℕ
 first_passing test from count = find test (range_with_len from count)
 
--- the height at sample i
+-- the height at sample i, in the parts of a height in which levels are stated
 abbrev pub scaled_height : Signal → Line → ℕ → ℤ
-scaled_height signal line i = height_by_span signal line i *ℤ pos 20
+scaled_height signal line i = height_by_span signal line i *ℤ pos TWENTIETHS
 
 -- the level of so many twentieths of the height at the apex
 abbrev pub scaled_level : Signal → Line → ℕ → ℕ → ℤ

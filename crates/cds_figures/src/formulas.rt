@@ -1,23 +1,18 @@
+//! The figures of peaks.
 ghost use Rattle.std.specs.Prelude.{◌≡◌, ◌+◌, ◌-◌, ◌*◌, ◌^◌, ◌<◌, ◌≤◌, pos, ◌*ℤ◌, ◌<ℤ◌, unsigned_abs};
 ghost use Rattle.cds_figures.specs.Figures.{resolution_of, plates_of, tailing_of, signal_noise_of, retention_of, peak_valley_of};
 
-use cds_base::Ratio;
+use cds_base::{HEIGHT_LIMIT, LAST_TIME_US, Ratio};
 use cds_frac::Frac;
 
-/// The longest time or width that a figure takes, in microseconds: four hours.
-pub const LONGEST_TIME_US: u64 = 14_400_000_000;
-
-/// The numerators of the ratios that a figure takes stay below this number in absolute value, 2^60.
-pub const RATIO_LIMIT: u128 = 1 << 60;
-
 /// The resolution of two peaks, 1.18 |t2 - t1| / (w1 + w2), with their apex times and their widths at half height in
-/// microseconds. Each is at most `LONGEST_TIME_US`, and one width is positive. After USP General Chapter 621, half-height
+/// microseconds. Each is at most `LAST_TIME_US`, and one width is positive. After USP General Chapter 621, half-height
 /// form of this project.
 pub fn resolution(t1: u64, w1: u64, t2: u64, w2: u64) -> Frac
-    requires first_time { t1 ≤ LONGEST_TIME_US }
-    requires first_width { w1 ≤ LONGEST_TIME_US }
-    requires second_time { t2 ≤ LONGEST_TIME_US }
-    requires second_width { w2 ≤ LONGEST_TIME_US }
+    requires first_time { t1 ≤ LAST_TIME_US }
+    requires first_width { w1 ≤ LAST_TIME_US }
+    requires second_time { t2 ≤ LAST_TIME_US }
+    requires second_width { w2 ≤ LAST_TIME_US }
     requires positive { 0 < w1 + w2 }
     ensures { result ≡ resolution_of t1 w1 t2 w2 }
 {
@@ -25,11 +20,11 @@ pub fn resolution(t1: u64, w1: u64, t2: u64, w2: u64) -> Frac
 }
 
 /// The number of theoretical plates, 5.54 t^2 / w^2, with the apex time and the width at half height in microseconds,
-/// both at most `LONGEST_TIME_US`, and the width positive. After USP General Chapter 621, half-height form of this
+/// both at most `LAST_TIME_US`, and the width positive. After USP General Chapter 621, half-height form of this
 /// project.
 pub fn plates(t: u64, w: u64) -> Frac
-    requires time { t ≤ LONGEST_TIME_US }
-    requires width { w ≤ LONGEST_TIME_US }
+    requires time { t ≤ LAST_TIME_US }
+    requires width { w ≤ LAST_TIME_US }
     requires positive { 0 < w }
     ensures { result ≡ plates_of t w }
 {
@@ -38,11 +33,11 @@ pub fn plates(t: u64, w: u64) -> Frac
 }
 
 /// The tailing of a peak, w / (2 d): its width at one twentieth of its height, which reaches from `left` to `right`, over
-/// twice the distance of the apex time `t` from `left`. Times are in microseconds, at most `LONGEST_TIME_US`, and `left`
+/// twice the distance of the apex time `t` from `left`. Times are in microseconds, at most `LAST_TIME_US`, and `left`
 /// is before the apex. After USP General Chapter 621, in the form of this project.
 pub fn tailing(t: u64, left: u64, right: u64) -> Frac
-    requires time { t ≤ LONGEST_TIME_US }
-    requires width { right ≤ LONGEST_TIME_US }
+    requires time { t ≤ LAST_TIME_US }
+    requires width { right ≤ LAST_TIME_US }
     requires positive { left < t }
     ensures { result ≡ tailing_of t left right }
 {
@@ -51,9 +46,9 @@ pub fn tailing(t: u64, left: u64, right: u64) -> Frac
 }
 
 /// The signal to noise of a peak, 2 H / h, with its height and the noise of the blank in counts. The noise is positive,
-/// and the numerator of the height below `RATIO_LIMIT`. After USP General Chapter 621, in the form of this project.
+/// and the numerator of the height below `HEIGHT_LIMIT`. After USP General Chapter 621, in the form of this project.
 pub fn signal_noise(height: Ratio, h: u32) -> Frac
-    requires height { unsigned_abs height.num < RATIO_LIMIT }
+    requires height { unsigned_abs height.num < HEIGHT_LIMIT }
     requires positive { 0 < h }
     ensures { result ≡ signal_noise_of height h }
 {
@@ -61,11 +56,11 @@ pub fn signal_noise(height: Ratio, h: u32) -> Frac
 }
 
 /// The retention factor of a peak, (t - tM) / tM, with its apex time and the dead time in microseconds, both at most
-/// `LONGEST_TIME_US`, and the dead time positive. It is negative for a peak before the dead time. After USP General
+/// `LAST_TIME_US`, and the dead time positive. It is negative for a peak before the dead time. After USP General
 /// Chapter 621, in the form of this project.
 pub fn retention(t: u64, dead: u64) -> Frac
-    requires time { t ≤ LONGEST_TIME_US }
-    requires dead { dead ≤ LONGEST_TIME_US }
+    requires time { t ≤ LAST_TIME_US }
+    requires dead { dead ≤ LAST_TIME_US }
     requires positive { 0 < dead }
     ensures { result ≡ retention_of t dead }
 {
@@ -74,11 +69,11 @@ pub fn retention(t: u64, dead: u64) -> Frac
 }
 
 /// The ratio of peak to valley, p / v: the smaller height of two neighbouring peaks over the height of the boundary
-/// between them. The boundary's height is positive, and both numerators are below `RATIO_LIMIT`. After USP General Chapter
+/// between them. The boundary's height is positive, and both numerators are below `HEIGHT_LIMIT`. After USP General Chapter
 /// 621, in the form of this project.
 pub fn peak_valley(p: Ratio, v: Ratio) -> Frac
-    requires peak { unsigned_abs p.num < RATIO_LIMIT }
-    requires valley { unsigned_abs v.num < RATIO_LIMIT }
+    requires peak { unsigned_abs p.num < HEIGHT_LIMIT }
+    requires valley { unsigned_abs v.num < HEIGHT_LIMIT }
     requires positive { pos 0 <ℤ v.num }
     ensures { result ≡ peak_valley_of p v }
 {
@@ -87,9 +82,9 @@ pub fn peak_valley(p: Ratio, v: Ratio) -> Frac
 
 /// A numerator times a divisor.
 fn product(num: i128, den: u64) -> i128
-    requires { unsigned_abs num < RATIO_LIMIT }
+    requires { unsigned_abs num < HEIGHT_LIMIT }
     ensures value { result ≡ num *ℤ pos den }
-    ensures small { unsigned_abs result ≤ 2 ^ 60 * den }
+    ensures small { unsigned_abs result ≤ HEIGHT_LIMIT * den }
 {
     num * i128::from(den)
 }

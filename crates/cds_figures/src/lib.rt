@@ -6,13 +6,10 @@
 
 mod blank;
 mod formulas;
-mod heights;
 mod widths;
 
 pub use blank::noise;
-pub use formulas::{
-    LONGEST_TIME_US, RATIO_LIMIT, peak_valley, plates, resolution, retention, signal_noise, tailing,
-};
+pub use formulas::{peak_valley, plates, resolution, retention, signal_noise, tailing};
 pub use widths::crossings;
 
 #[cfg(test)]

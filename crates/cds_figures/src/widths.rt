@@ -1,15 +1,15 @@
+//! Where the signal crosses a level of a peak's height.
 ghost use Rattle.std.specs.Prelude.{◌≡◌, ◌+◌, ◌-◌, ◌*◌, ◌/◌, ◌^◌, ◌<◌, ◌≤◌, pos, ◌-ℤ◌, ◌*ℤ◌, ◌<ℤ◌, length, unsigned_abs, IfSome};
-ghost use Rattle.cds_trace.specs.declared.trace.TheConstants.{LAST_TIME_US};
+ghost use Rattle.cds_base.specs.declared.time.TheConstants.{LAST_TIME_US};
 ghost use Rattle.cds_trace.specs.Heights.{height_by_span};
 ghost use Rattle.cds_figures.specs.Crossings.{scaled_height, scaled_level, meeting_time, left_crossing, right_crossing, crossings_of};
 
-use crate::heights::height_by_span;
 use cds_base::{Line, Steps};
-use cds_trace::Trace;
+use cds_trace::{MOST_SAMPLES, Trace, height_by_span};
 use std::sync::ledger::Ledger;
 
 /// Levels are stated in parts of a peak's height of which the height has this many.
-const TWENTIETHS: u8 = 20;
+pub(crate) const TWENTIETHS: u8 = 20;
 
 /// A level of a peak's height and the height at the apex, both times twenty times the line's span, in counts.
 #[derive(Clone, Copy)]
@@ -20,9 +20,9 @@ struct Level {
 
 /// So many times a height. Heights are times a line's span, in counts.
 fn times(height: i64, count: u8) -> i64
-    requires { unsigned_abs height ≤ 2 ^ 49 }
+    requires { unsigned_abs height ≤ 2 ^ 32 * MOST_SAMPLES }
     ensures value { result ≡ height *ℤ pos count }
-    ensures small { unsigned_abs result ≤ 2 ^ 49 * count }
+    ensures small { unsigned_abs result ≤ 2 ^ 32 * MOST_SAMPLES * count }
 {
     height * i64::from(count)
 }
@@ -33,7 +33,7 @@ fn scaled_height<L: Ledger>(i: u32, line: &Line, trace: &Trace, steps: &mut Step
     requires right { i ≤ line.now.to }
     requires within { line.now.to < length trace.now.samples }
     ensures value { result ≡ scaled_height trace.now line.now i }
-    ensures small { unsigned_abs result ≤ 20 * 2 ^ 49 }
+    ensures small { unsigned_abs result ≤ 2 ^ 32 * MOST_SAMPLES * TWENTIETHS }
     ensures counted { steps.new ≡ steps.old + 1 }
 {
     times(height_by_span(i, line, trace, steps), TWENTIETHS)
@@ -56,7 +56,7 @@ fn level_of<L: Ledger>(
     ensures at { result.at ≡ scaled_level trace.now line.now apex twentieths }
     ensures top { result.top ≡ scaled_height trace.now line.now apex }
     ensures below { result.at <ℤ result.top }
-    ensures small { unsigned_abs result.at ≤ 20 * 2 ^ 49 }
+    ensures small { unsigned_abs result.at ≤ 2 ^ 32 * MOST_SAMPLES * TWENTIETHS }
     ensures counted { steps.new ≡ steps.old + 1 }
 {
     let height = height_by_span(apex, line, trace, steps);
