@@ -1,5 +1,5 @@
 -- The raw peaks of a trace. This project's own rule.
-use Rattle.std.specs.Prelude.{◌≡◌, ℕ, ◌-◌, ◌*◌, ◌<◌, ◌≤◌, ◌&&◌, ◌==◌, Bool, List, [], ◌∷◌, map, length, nat_le, nat_lt, if◌then◌else◌}
+use Rattle.std.specs.Prelude.{ℕ, ◌-◌, ◌*◌, ◌&&◌, ◌==◌, Bool, List, [], map, length, nat_le, nat_lt, if◌then◌else◌}
 use Rattle.std.specs.List.{filter}
 use Rattle.cds_base.specs.declared.peak.RawPeak.{RawPeak}
 use Rattle.cds_trace.specs.Signal.{Signal}
@@ -43,18 +43,3 @@ answer_of peaks = if nat_le (length peaks) MOST_RAW_PEAKS then variant.List peak
 abbrev pub peaks_in : Raw → List RawPeak
 peaks_in (variant.List peaks) = peaks
 peaks_in (variant.TooMany number) = []
-
--- a raw peak that begins at this sample or behind it
-pub record IsRawPeak (signal : Signal) (at : ℕ) (peak : RawPeak) : Type 0 where
-  pub follows : at ≤ peak.start
-  -- its apex lies strictly inside, and is the first greatest sample of its range
-  pub rises : peak.start < peak.apex
-  pub falls : peak.apex < peak.end
-  pub apex : peak.apex ≡ first_greatest signal peak.start peak.end
-  -- it ends within the trace
-  pub ends : peak.end < length signal.samples
-
--- raw peaks one after the other from this sample on; the end of one may be the start of the next
-abbrev pub StandFrom : Signal → ℕ → List RawPeak → Type 0
-StandFrom signal at [] = Unit {0}
-StandFrom signal at (peak ∷ peaks) = IsRawPeak signal at peak × StandFrom signal peak.end peaks

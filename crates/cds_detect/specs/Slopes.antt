@@ -4,6 +4,7 @@ use Rattle.std.specs.Prelude.{ℕ, ◌*◌, Bool, false, List, [], ◌∷◌, Op
 use Rattle.std.specs.List.{list_any}
 use Rattle.std.specs.Option.{unwrap_or}
 use Rattle.cds_base.specs.EventTime.{is_in_window}
+use Rattle.cds_base.specs.declared.time.TheConstants.{MILLISECOND_US}
 use Rattle.cds_base.specs.declared.event.Event.{Event}
 use Rattle.cds_base.specs.declared.event.Event.TheVariants.{Inhibit, Valley, Drop, Baseline, Slope, Skim}
 use Rattle.cds_detect.specs.declared.slopes.Slopes.{Slopes}
@@ -27,7 +28,7 @@ slopes_set time (Inhibit from to) = None
 slopes_set time (Valley from to) = None
 slopes_set time (Drop at) = None
 slopes_set time (Baseline from to) = None
-slopes_set time (Slope at on off) = if nat_le (1000 * at) time then Some (record { at = at; on = on; off = off }) else None
+slopes_set time (Slope at on off) = if nat_le (MILLISECOND_US * at) time then Some (record { at = at; on = on; off = off }) else None
 slopes_set time (Skim from to) = None
 
 -- of two settings the one with the greater time, and the second where the times are equal

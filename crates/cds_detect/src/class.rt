@@ -5,9 +5,9 @@ ghost use Rattle.cds_detect.specs.Spans.{is_up, is_down};
 ghost use Rattle.cds_detect.specs.Settings.{settings_of};
 
 use crate::slopes::{Slopes, is_inhibited, slopes_at};
-use cds_base::Event;
+use cds_base::{Event, LAST_TIME_US};
 use cds_rules::{MOST_BUNCH, Method};
-use cds_trace::{LAST_TIME_US, Trace};
+use cds_trace::Trace;
 
 /// Slopes are in counts per second, and times in microseconds.
 const MICROSECONDS_PER_SECOND: u128 = 1_000_000;

@@ -1,10 +1,11 @@
 ghost use Rattle.std.specs.Prelude.{◌≡◌, ◌+◌, ◌*◌, ◌<◌, ◌≤◌, ◌++◌, ◌∷◌, ◌^◌, [], length, vec_len, IfOk, OnOk};
 ghost use Rattle.std.specs.List.{filter};
 ghost use Rattle.cds_trace.specs.Signal.{IsTrace};
+ghost use Rattle.cds_trace.specs.Standing.{RawFrom};
 ghost use Rattle.cds_detect.specs.Classes.{class_count};
 ghost use Rattle.cds_detect.specs.Settings.{settings_of};
 ghost use Rattle.cds_detect.specs.Windows.{Stands, peaks_with, cost_to, whole_cost};
-ghost use Rattle.cds_detect.specs.Raw.{end_sample, peak_between, is_peak, raw_peaks_of, answer_of, peaks_in, StandFrom};
+ghost use Rattle.cds_detect.specs.Raw.{end_sample, peak_between, is_peak, raw_peaks_of, answer_of, peaks_in};
 
 use crate::apex::first_greatest;
 use crate::bunch::class_count;
@@ -36,7 +37,7 @@ pub fn raw_peaks<L: Ledger>(
 ) -> Result<Raw, NoMemory>
     ensures value { IfOk result (λ raw.
         raw ≡ answer_of (raw_peaks_of trace.now (settings_of method.now manual.now))) }
-    ensures stand { IfOk result (λ raw. StandFrom trace.now 0 (peaks_in raw)) }
+    ensures stand { IfOk result (λ raw. RawFrom trace.now 0 (peaks_in raw)) }
     ensures few { IfOk result (λ raw. length (peaks_in raw) ≤ MOST_RAW_PEAKS) }
     ensures least { steps.old ≤ steps.new }
     ensures counted { steps.new ≤ steps.old + 4 * length trace.now.samples }
