@@ -1,3 +1,4 @@
 pub mod Crossings
 pub mod Noise
 pub mod Figures
+pub mod PeakTime
