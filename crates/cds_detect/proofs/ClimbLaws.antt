@@ -6,7 +6,7 @@ use Rattle.cds_detect.specs.declared.class.Class.{Class}
 use Rattle.cds_detect.specs.declared.class.Class.TheVariants.{Inhibited, Up, Down, Flat}
 use Rattle.cds_base.specs.Search.{least}
 use Rattle.cds_detect.specs.Climbs.{flats_after}
-use Rattle.cds_detect.proofs.LeastLaws.{least-skip, least-here}
+use Rattle.cds_trace.proofs.LeastLaws.{least-skip, least-here}
 use Rattle.cds_detect.specs.Spans.{is_flat, is_down, is_inhibited_class, class_at, is_flat_before, ends_climb, ends_fall}
 
 -- how many classes in a row directly before k, all after s, are flat

@@ -1,11 +1,9 @@
-pub mod LeastLaws
 pub mod SpansLaws
 pub mod SlopesLaws
 pub mod ClassesLaws
 pub mod PlaceLaws
 pub mod ClimbLaws
 pub mod WindowLaws
-pub mod ApexLaws
 pub mod TurnLaws
 pub mod StandLaws
 pub mod Rows

@@ -2,6 +2,7 @@
 use Rattle.std.proofs.Common.{◌≡◌, ℕ, ◌+◌, ◌-◌, ◌*◌, ◌/◌, ◌<◌, ◌≤◌, length, inl, inr, refl, arith}
 use Rattle.std.proofs.Math.Nat.{mul-le-mul_right, div-mul-le_self}
 use Rattle.std.proofs.lemmas.Bool.{eq-eqb, ne_eqb, cases_eq}
+use Rattle.cds_base.specs.declared.time.TheConstants.{LAST_TIME_US}
 use Rattle.cds_trace.specs.Signal.{Signal}
 use Rattle.cds_detect.specs.Classes.{class_count}
 use Rattle.cds_detect.specs.Raw.{end_sample}
@@ -16,7 +17,7 @@ bunch-within j bunch samples l =
 pub class-within : (j bunch samples : ℕ) → 1 ≤ bunch → j < class_count samples bunch → j * bunch + 1 ≤ samples - 1
 class-within j bunch samples some l = omega (arith, bunch-within (j + 1) bunch samples (omega arith))
 
-pub time-within : (j bunch samples period : ℕ) → 1 ≤ bunch → j < class_count samples bunch → (samples - 1) * period ≤ 14400000000 → j * bunch * period ≤ 14400000000
+pub time-within : (j bunch samples period : ℕ) → 1 ≤ bunch → j < class_count samples bunch → (samples - 1) * period ≤ LAST_TIME_US → j * bunch * period ≤ LAST_TIME_US
 time-within j bunch samples period some l m =
     let before : j * bunch ≤ samples - 1 = omega (arith, class-within j bunch samples some l) in
     omega (arith, mul-le-mul_right period before)

@@ -5,7 +5,7 @@ use Rattle.std.proofs.lemmas.List.{get_or_past, length-append}
 use Rattle.cds_detect.specs.declared.class.Class.{Class}
 use Rattle.cds_detect.specs.declared.class.Class.TheVariants.{Flat}
 use Rattle.cds_detect.specs.Spans.{Span, is_down, class_at, ends_climb, ends_fall, next_up, climb, fall, span_from, behind, spans_from, later_spans, spans}
-use Rattle.cds_detect.proofs.LeastLaws.{least-end, least-low, least-high}
+use Rattle.cds_trace.proofs.LeastLaws.{least-end, least-low, least-high}
 
 -- behind the last class there is none but flat ones
 pub class_at-past : (cs : List Class) (k : ℕ) → length cs ≤ k → class_at cs k ≡ Flat

@@ -11,7 +11,7 @@ use Rattle.cds_detect.specs.Spans.{Span, is_down, class_at, next_up, climb, fall
 use Rattle.cds_detect.specs.declared.raw.Raw.TheVariants as variant
 use Rattle.cds_detect.specs.declared.raw.TheConstants.{MOST_RAW_PEAKS}
 use Rattle.cds_detect.specs.Raw.{end_sample, peak_of, is_peak, peaks_of, raw_peaks_of, answer_of, peaks_in}
-use Rattle.cds_detect.proofs.LeastLaws.{least-low}
+use Rattle.cds_trace.proofs.LeastLaws.{least-low}
 use Rattle.cds_detect.proofs.SpansLaws.{climb-low, climb-high, fall-low, fall-high, spans_from-past, span_from-past, behind-past, length-spans_from, later_spans-end}
 use Rattle.cds_detect.proofs.ClassesLaws.{length-classes}
 use Rattle.cds_detect.proofs.PlaceLaws.{end_sample-behind, end_sample-within}

@@ -9,7 +9,7 @@ use Rattle.cds_detect.specs.declared.class.Class.{Class}
 use Rattle.cds_detect.specs.Classes.{Settings, class_count, classes}
 use Rattle.cds_detect.specs.Spans.{Span, is_down, class_at, next_up, climb, fall, later_spans}
 use Rattle.cds_detect.specs.Raw.{end_sample, peak_between, peak_of, is_peak, peaks_of}
-use Rattle.cds_detect.proofs.LeastLaws.{least-low}
+use Rattle.cds_trace.proofs.LeastLaws.{least-low}
 use Rattle.cds_detect.proofs.SpansLaws.{climb-low, down-before, fall-low, later_spans-end, later_spans-none, later_spans-abandoned, later_spans-peak}
 use Rattle.cds_detect.proofs.ClassesLaws.{length-classes}
 use Rattle.cds_detect.proofs.PlaceLaws.{end_sample-class, end_sample-behind}

@@ -4,6 +4,7 @@ use Rattle.std.specs.List.{range_with_len}
 use Rattle.cds_base.specs.declared.event.Event.{Event}
 use Rattle.cds_trace.specs.Signal.{Signal, sum_between}
 use Rattle.cds_detect.specs.declared.class.Class.{Class}
+use Rattle.cds_detect.specs.declared.class.TheConstants.{SECOND_US}
 use Rattle.cds_detect.specs.declared.class.Class.TheVariants.{Inhibited, Up, Down, Flat}
 use Rattle.cds_detect.specs.declared.slopes.Slopes.{Slopes}
 use Rattle.cds_detect.specs.Slopes.{is_inhibited, slopes_at}
@@ -33,7 +34,7 @@ weight_of bunch period = 2 * bunch * bunch * period
 
 -- the sum rises by at least the slope from `low` to `high`, two bunches further
 abbrev pub is_steep : ℕ → ℕ → ℤ → ℤ → Bool
-is_steep slope weight low high = int_le (pos (slope * weight)) ((high -ℤ low) *ℤ pos 1000000)
+is_steep slope weight low high = int_le (pos (slope * weight)) ((high -ℤ low) *ℤ pos SECOND_US)
 
 -- the class under these thresholds of a bunch with the sum `near`, and with the sum `far` two bunches further
 abbrev pub class_between : Slopes → ℕ → ℕ → ℤ → ℤ → Class

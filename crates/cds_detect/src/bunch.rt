@@ -1,3 +1,4 @@
+//! Bunches of samples and their sums.
 ghost use Rattle.std.specs.Prelude.{◌≡◌, ◌+◌, ◌/◌, ◌<◌, ◌≤◌, length};
 ghost use Rattle.cds_trace.specs.Signal.{IsTrace};
 ghost use Rattle.cds_detect.specs.Classes.{class_count, bunch_sum};

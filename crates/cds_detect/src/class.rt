@@ -1,16 +1,18 @@
+//! Whether the bunched signal rises or falls.
 ghost use Rattle.std.specs.Prelude.{◌≡◌, ◌+◌, ◌<◌, ◌≤◌, length};
 ghost use Rattle.cds_detect.specs.Bunches.{IsBunchSum};
 ghost use Rattle.cds_detect.specs.Classes.{is_steep, class_between, class_of, class_count, bunch_sum};
 ghost use Rattle.cds_detect.specs.Spans.{is_up, is_down};
 ghost use Rattle.cds_detect.specs.Settings.{settings_of};
+ghost use Rattle.cds_rules.specs.Fields.{fields_of};
 
 use crate::slopes::{Slopes, is_inhibited, slopes_at};
 use cds_base::{Event, LAST_TIME_US};
 use cds_rules::{MOST_BUNCH, Method};
 use cds_trace::Trace;
 
-/// Slopes are in counts per second, and times in microseconds.
-const MICROSECONDS_PER_SECOND: u128 = 1_000_000;
+/// A second, in microseconds: slopes are in counts per second, and times in microseconds.
+pub(crate) const SECOND_US: u128 = 1_000_000;
 
 /// Whether the signal rises over two bunches, falls, does neither, or no peak may be there.
 #[derive(Clone, Copy, Debug)]
@@ -55,7 +57,7 @@ pub(crate) fn class_of(
     requires near_range { IsBunchSum near }
     requires far { far ≡ bunch_sum trace.now method.now.bunch (at + 2) }
     requires far_range { IsBunchSum far }
-    ensures { result ≡ class_of trace.now (settings_of method.now manual.now) at }
+    ensures { result ≡ class_of trace.now (settings_of (fields_of method.now) manual.now) at }
 {
     let period = trace.period();
     let time = u64::from(at * method.bunch) * period;
@@ -93,5 +95,5 @@ fn is_steep(slope: u32, weight: u64, low: i64, high: i64) -> bool
     ensures { result ≡ is_steep slope weight low high }
 {
     let needed = u128::from(slope) * u128::from(weight);
-    high >= low && u128::from((high - low) as u64) * MICROSECONDS_PER_SECOND >= needed
+    high >= low && u128::from((high - low) as u64) * SECOND_US >= needed
 }

@@ -1,19 +1,20 @@
+//! The search for raw peaks.
 ghost use Rattle.std.specs.Prelude.{◌≡◌, ◌+◌, ◌*◌, ◌<◌, ◌≤◌, ◌++◌, ◌∷◌, ◌^◌, [], length, vec_len, IfOk, OnOk};
 ghost use Rattle.std.specs.List.{filter};
 ghost use Rattle.cds_trace.specs.Signal.{IsTrace};
 ghost use Rattle.cds_trace.specs.Standing.{RawFrom};
 ghost use Rattle.cds_detect.specs.Classes.{class_count};
 ghost use Rattle.cds_detect.specs.Settings.{settings_of};
+ghost use Rattle.cds_rules.specs.Fields.{fields_of};
 ghost use Rattle.cds_detect.specs.Windows.{Stands, peaks_with, cost_to, whole_cost};
 ghost use Rattle.cds_detect.specs.Raw.{end_sample, peak_between, is_peak, raw_peaks_of, answer_of, peaks_in};
 
-use crate::apex::first_greatest;
 use crate::bunch::class_count;
 use crate::raw::{MOST_RAW_PEAKS, Raw, RawPeaks};
 use crate::scan::{Window, climb, fall, find_up, first};
 use cds_base::{Event, NoMemory, RawPeak, Steps};
 use cds_rules::Method;
-use cds_trace::Trace;
+use cds_trace::{Trace, first_greatest};
 use std::alloc::Global;
 use std::sync::ledger::Ledger;
 
@@ -36,7 +37,7 @@ pub fn raw_peaks<L: Ledger>(
     steps: &mut Steps<L>,
 ) -> Result<Raw, NoMemory>
     ensures value { IfOk result (λ raw.
-        raw ≡ answer_of (raw_peaks_of trace.now (settings_of method.now manual.now))) }
+        raw ≡ answer_of (raw_peaks_of trace.now (settings_of (fields_of method.now) manual.now))) }
     ensures stand { IfOk result (λ raw. RawFrom trace.now 0 (peaks_in raw)) }
     ensures few { IfOk result (λ raw. length (peaks_in raw) ≤ MOST_RAW_PEAKS) }
     ensures least { steps.old ≤ steps.new }
@@ -74,10 +75,10 @@ fn turn<L: Ledger>(
     steps: &mut Steps<L>,
 ) -> Result<Window, NoMemory>
     requires here { window.at < class_count (length trace.now.samples) method.now.bunch }
-    requires stands { Stands trace.now (settings_of method.now manual.now) window }
+    requires stands { Stands trace.now (settings_of (fields_of method.now) manual.now) window }
     ensures on { IfOk result (λ w. window.at < w.at) }
-    ensures stands { IfOk result (λ w. Stands trace.now (settings_of method.now manual.now) w) }
-    ensures found { let settings = settings_of method.now manual.now in
+    ensures stands { IfOk result (λ w. Stands trace.now (settings_of (fields_of method.now) manual.now) w) }
+    ensures found { let settings = settings_of (fields_of method.now) manual.now in
         IfOk result (λ w. peaks_with trace.now settings found.new.items w.at
         ≡ peaks_with trace.now settings found.old.items window.at) }
     ensures counted { IfOk result (λ w. steps.new + cost_to trace.now method.now.bunch window.at
@@ -130,7 +131,7 @@ fn keep<L: Ledger>(
         (found.new.items ≡ found.old.items ++ filter is_peak (peak_between trace.now from to ∷ [])) }
     ensures counted { steps.new + from ≡ steps.old + to + 1 }
 {
-    let apex = first_greatest(trace, from, to, steps);
+    let apex = first_greatest(from, to, trace, steps).sample;
     if from < apex && apex < to {
         found.push(RawPeak {
             start: from,

@@ -1,4 +1,5 @@
-ghost use Rattle.std.specs.Prelude.{◌≡◌};
+//! What the detector finds.
+ghost use Rattle.std.specs.Prelude.{◌≡◌, length, option_copied, slice_get};
 
 use cds_base::RawPeak;
 use std::marker::Model;
@@ -34,6 +35,20 @@ impl RawPeaks {
         ensures { result.now ≡ self.now }
     {
         self.items.as_slice()
+    }
+
+    /// How many raw peaks there are.
+    pub fn len(&self) -> usize
+        ensures { result ≡ length self.now }
+    {
+        self.items.len()
+    }
+
+    /// The raw peak at a place, counted from 0. None exactly where there are not so many.
+    pub fn get(&self, i: usize) -> Option<&RawPeak>
+        ensures { option_copied result ≡ slice_get self.now i }
+    {
+        self.items.get(i)
     }
 }
 

@@ -1,6 +1,8 @@
+//! One scan over the classes of a trace.
 ghost use Rattle.std.specs.Prelude.{◌≡◌, ◌+◌, ◌*◌, ◌<◌, ◌≤◌, length, Some};
 ghost use Rattle.cds_detect.specs.Classes.{class_count, classes};
 ghost use Rattle.cds_detect.specs.Settings.{settings_of};
+ghost use Rattle.cds_rules.specs.Fields.{fields_of};
 ghost use Rattle.cds_detect.specs.Spans.{next_up, climb, fall, is_down};
 ghost use Rattle.cds_detect.specs.Climbs.{flats_after};
 ghost use Rattle.cds_detect.specs.Windows.{Stands};
@@ -30,7 +32,7 @@ pub(crate) fn first<L: Ledger>(
     steps: &mut Steps<L>,
 ) -> Window
     ensures first { result.at ≡ 0 }
-    ensures stands { Stands trace.now (settings_of method.now manual.now) result }
+    ensures stands { Stands trace.now (settings_of (fields_of method.now) manual.now) result }
     ensures least { steps.old ≤ steps.new }
     ensures counted { steps.new ≤ steps.old + 6 }
 {
@@ -63,9 +65,9 @@ fn next<L: Ledger>(
     steps: &mut Steps<L>,
 ) -> Window
     requires here { window.at < class_count (length trace.now.samples) method.now.bunch }
-    requires stands { Stands trace.now (settings_of method.now manual.now) window }
+    requires stands { Stands trace.now (settings_of (fields_of method.now) manual.now) window }
     ensures next { result.at ≡ window.at + 1 }
-    ensures stands { Stands trace.now (settings_of method.now manual.now) result }
+    ensures stands { Stands trace.now (settings_of (fields_of method.now) manual.now) result }
     ensures least { steps.old ≤ steps.new }
     ensures counted { steps.new ≤ steps.old + 2 }
 {
@@ -88,7 +90,7 @@ fn next<L: Ledger>(
 }
 
 /// The scan at the first rise from here on. Two steps for each class that it passes.
-#[tactic(auto, using(crate::proofs::ClassesLaws::class_laws, crate::proofs::LeastLaws::searching))]
+#[tactic(auto, using(crate::proofs::ClassesLaws::class_laws, cds_trace::proofs::LeastLaws::searching))]
 pub(crate) fn find_up<L: Ledger>(
     trace: &Trace,
     method: &Method,
@@ -96,10 +98,10 @@ pub(crate) fn find_up<L: Ledger>(
     mut window: Window,
     steps: &mut Steps<L>,
 ) -> Window
-    requires { Stands trace.now (settings_of method.now manual.now) window }
-    ensures place { let cs = classes trace.now (settings_of method.now manual.now) in
+    requires { Stands trace.now (settings_of (fields_of method.now) manual.now) window }
+    ensures place { let cs = classes trace.now (settings_of (fields_of method.now) manual.now) in
         result.at ≡ next_up cs window.at }
-    ensures stands { Stands trace.now (settings_of method.now manual.now) result }
+    ensures stands { Stands trace.now (settings_of (fields_of method.now) manual.now) result }
     ensures least { steps.old ≤ steps.new }
     ensures counted { steps.new + 2 * window.at ≤ steps.old + 2 * result.at }
 {
@@ -119,10 +121,10 @@ pub(crate) fn climb<L: Ledger>(
     steps: &mut Steps<L>,
 ) -> Window
     requires here { start.at < class_count (length trace.now.samples) method.now.bunch }
-    requires stands { Stands trace.now (settings_of method.now manual.now) start }
-    ensures place { let cs = classes trace.now (settings_of method.now manual.now) in
+    requires stands { Stands trace.now (settings_of (fields_of method.now) manual.now) start }
+    ensures place { let cs = classes trace.now (settings_of (fields_of method.now) manual.now) in
         result.at ≡ climb cs method.now.plateau start.at }
-    ensures stands { Stands trace.now (settings_of method.now manual.now) result }
+    ensures stands { Stands trace.now (settings_of (fields_of method.now) manual.now) result }
     ensures least { steps.old ≤ steps.new }
     ensures counted { steps.new + 2 * start.at ≤ steps.old + 2 * result.at }
 {
@@ -151,7 +153,7 @@ fn flats_after(class: Class, flats: u32, plateau: u32) -> Option<u32>
 }
 
 /// The scan where the fall from here ends. Two steps for each class that it passes.
-#[tactic(auto, using(crate::proofs::ClassesLaws::class_laws, crate::proofs::LeastLaws::searching))]
+#[tactic(auto, using(crate::proofs::ClassesLaws::class_laws, cds_trace::proofs::LeastLaws::searching))]
 pub(crate) fn fall<L: Ledger>(
     trace: &Trace,
     method: &Method,
@@ -160,10 +162,10 @@ pub(crate) fn fall<L: Ledger>(
     steps: &mut Steps<L>,
 ) -> Window
     requires here { start.at < class_count (length trace.now.samples) method.now.bunch }
-    requires stands { Stands trace.now (settings_of method.now manual.now) start }
-    ensures place { let cs = classes trace.now (settings_of method.now manual.now) in
+    requires stands { Stands trace.now (settings_of (fields_of method.now) manual.now) start }
+    ensures place { let cs = classes trace.now (settings_of (fields_of method.now) manual.now) in
         result.at ≡ fall cs start.at }
-    ensures stands { Stands trace.now (settings_of method.now manual.now) result }
+    ensures stands { Stands trace.now (settings_of (fields_of method.now) manual.now) result }
     ensures least { steps.old ≤ steps.new }
     ensures counted { steps.new + 2 * start.at ≤ steps.old + 2 * result.at }
 {

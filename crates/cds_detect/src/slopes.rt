@@ -1,12 +1,11 @@
+//! Which slope thresholds are in force, and where no peak may be.
 ghost use Rattle.std.specs.Prelude.{◌≡◌};
 ghost use Rattle.cds_detect.specs.Slopes.{inhibits, is_inhibited, slopes_set, later_of, in_force, slopes_at};
 ghost use Rattle.cds_detect.specs.Settings.{settings_of};
+ghost use Rattle.cds_rules.specs.Fields.{fields_of};
 
-use cds_base::{Event, is_in_window};
+use cds_base::{Event, MILLISECOND_US, is_in_window};
 use cds_rules::Method;
-
-/// The times of events are in milliseconds, those of samples in microseconds.
-const MICROSECONDS_PER_MILLISECOND: u64 = 1000;
 
 /// Slope thresholds in counts per second, and the time in milliseconds from which on they are in force.
 #[derive(Clone, Copy, Debug)]
@@ -37,7 +36,7 @@ fn inhibits(event: Event, time: u64) -> bool
 /// row's, and the method's own where there is none.
 #[tactic(auto, using(crate::proofs::SlopesLaws::more_laws))]
 pub(crate) fn slopes_at(method: &Method, manual: &[Event], time: u64) -> Slopes
-    ensures { let settings = settings_of method.now manual.now in result ≡ slopes_at settings.own settings.events time }
+    ensures { let settings = settings_of (fields_of method.now) manual.now in result ≡ slopes_at settings.own settings.events time }
 {
     let own = Slopes {
         at: 0,
@@ -69,7 +68,7 @@ fn slopes_set(event: Event, time: u64) -> Option<Slopes>
     ensures { result ≡ slopes_set time event }
 {
     match event {
-        Event::Slope { at, on, off } if MICROSECONDS_PER_MILLISECOND * u64::from(at) <= time => {
+        Event::Slope { at, on, off } if MILLISECOND_US * u64::from(at) <= time => {
             Some(Slopes { at, on, off })
         }
         _ => None,

@@ -6,3 +6,6 @@ pub mod TextLaws
 pub mod LineLaws
 pub mod WrittenLaws
 pub mod HeightLaws
+pub mod LeastLaws
+pub mod ExtremeLaws
+pub mod DifferenceLaws

@@ -12,3 +12,5 @@ pub mod SampleBytes
 pub mod Heights
 pub mod Extremes
 pub mod Standing
+pub mod SevenBits
+pub mod Differences

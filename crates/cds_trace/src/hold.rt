@@ -35,8 +35,8 @@ impl Trace {
     }
 }
 
-// Appends the bytes of a sample.
-fn push_sample(bytes: &mut Vec<u8>, sample: i32) -> Result<(), AllocError>
+/// Appends the bytes of a sample.
+pub(crate) fn push_sample(bytes: &mut Vec<u8>, sample: i32) -> Result<(), AllocError>
     ensures { OnOk result (bytes.new.items ≡ bytes.old.items ++ bytes_of_sample sample) }
 {
     bytes.extend_from_slice(&sample.to_be_bytes())?;

@@ -4,7 +4,9 @@
 //! [`Trace::sum`]. [`chord`], [`level_by_span`] and [`height_by_span`] are the straight lines below a signal.
 #![tactic(auto)]
 
+mod differences;
 mod error;
+mod extremes;
 mod hold;
 mod laws;
 mod lines;
@@ -14,6 +16,7 @@ mod trace;
 mod write;
 
 pub use error::TraceError;
+pub use extremes::{Top, first_greatest};
 pub use laws::the_limits;
 pub use lines::{chord, height_by_span, level_by_span};
 pub use number::MOST_DIGITS;

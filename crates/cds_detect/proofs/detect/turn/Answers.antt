@@ -1,6 +1,7 @@
 use Rattle.std.proofs.Common.{◌+◌, ◌*◌, ◌<◌, ◌≤◌, ◌++◌, length, arith, refl, ap}
 use Rattle.cds_detect.specs.Classes.{class_count}
 use Rattle.cds_detect.specs.Settings.{settings_of}
+use Rattle.cds_rules.specs.Fields.{fields_of}
 use Rattle.cds_detect.specs.Raw.{end_sample}
 use Rattle.cds_detect.proofs.PlaceLaws.{end_sample-behind, end_sample-within}
 use Rattle.cds_detect.proofs.TurnLaws.{turn-ended, turn-start, turn-top, turn-abandoned, turn-down, turn-end, turn-peak, end_sample-rises, end_sample-start}
@@ -10,7 +11,7 @@ pub returns-then-start-class_count-clause-found : goal.returns-then-start-class_
 returns-then-start-class_count-clause-found g c =
     let signal = c.args.trace.now in
     let bunch = c.args.method.now.bunch in
-    let settings = settings_of c.args.method.now c.args.manual.now in
+    let settings = settings_of (fields_of c.args.method.now) c.args.manual.now in
     let k = c.args.window.at in
     let s = c.find_up-start.result.at in
     let low : k ≤ s = turn-start signal settings k s c.requires.here c.find_up-start.ensures.place in
@@ -22,7 +23,7 @@ pub returns-then-start-class_count-clause-counted : goal.returns-then-start-clas
 returns-then-start-class_count-clause-counted g c =
     let signal = c.args.trace.now in
     let bunch = c.args.method.now.bunch in
-    let settings = settings_of c.args.method.now c.args.manual.now in
+    let settings = settings_of (fields_of c.args.method.now) c.args.manual.now in
     let k = c.args.window.at in
     let s = c.find_up-start.result.at in
     let low : k ≤ s = turn-start signal settings k s c.requires.here c.find_up-start.ensures.place in
@@ -35,7 +36,7 @@ pub returns-then-not-is_down-clause-on : goal.returns-then-not-is_down-clause-on
 returns-then-not-is_down-clause-on g c =
     let signal = c.args.trace.now in
     let bunch = c.args.method.now.bunch in
-    let settings = settings_of c.args.method.now c.args.manual.now in
+    let settings = settings_of (fields_of c.args.method.now) c.args.manual.now in
     let k = c.args.window.at in
     let s = c.find_up-start.result.at in
     let low : k ≤ s = turn-start signal settings k s c.requires.here c.find_up-start.ensures.place in
@@ -49,7 +50,7 @@ pub returns-then-not-is_down-clause-found : goal.returns-then-not-is_down-clause
 returns-then-not-is_down-clause-found g c =
     let signal = c.args.trace.now in
     let bunch = c.args.method.now.bunch in
-    let settings = settings_of c.args.method.now c.args.manual.now in
+    let settings = settings_of (fields_of c.args.method.now) c.args.manual.now in
     let k = c.args.window.at in
     let s = c.find_up-start.result.at in
     let low : k ≤ s = turn-start signal settings k s c.requires.here c.find_up-start.ensures.place in
@@ -63,7 +64,7 @@ pub returns-then-not-is_down-clause-counted : goal.returns-then-not-is_down-clau
 returns-then-not-is_down-clause-counted g c =
     let signal = c.args.trace.now in
     let bunch = c.args.method.now.bunch in
-    let settings = settings_of c.args.method.now c.args.manual.now in
+    let settings = settings_of (fields_of c.args.method.now) c.args.manual.now in
     let k = c.args.window.at in
     let s = c.find_up-start.result.at in
     let low : k ≤ s = turn-start signal settings k s c.requires.here c.find_up-start.ensures.place in
@@ -77,13 +78,13 @@ returns-then-not-is_down-clause-counted g c =
 
 pub fall-end-requires-clause-here : goal.fall-end-requires-clause-here
 fall-end-requires-clause-here g c =
-    turn-down c.args.trace.now (settings_of c.args.method.now c.args.manual.now) c.climb-top.result.at c.climb-top.result.class c.climb-top.ensures.stands.class (cc)
+    turn-down c.args.trace.now (settings_of (fields_of c.args.method.now) c.args.manual.now) c.climb-top.result.at c.climb-top.result.class c.climb-top.ensures.stands.class (cc)
 
 pub keep-requires-clause-order : goal.keep-requires-clause-order
 keep-requires-clause-order g c =
     let signal = c.args.trace.now in
     let bunch = c.args.method.now.bunch in
-    let settings = settings_of c.args.method.now c.args.manual.now in
+    let settings = settings_of (fields_of c.args.method.now) c.args.manual.now in
     let k = c.args.window.at in
     let s = c.find_up-start.result.at in
     let low : k ≤ s = turn-start signal settings k s c.requires.here c.find_up-start.ensures.place in
@@ -110,7 +111,7 @@ pub returns-in_err-keep-clause-bounded : goal.returns-in_err-keep-clause-bounded
 returns-in_err-keep-clause-bounded g c =
     let signal = c.args.trace.now in
     let bunch = c.args.method.now.bunch in
-    let settings = settings_of c.args.method.now c.args.manual.now in
+    let settings = settings_of (fields_of c.args.method.now) c.args.manual.now in
     let k = c.args.window.at in
     let s = c.find_up-start.result.at in
     let low : k ≤ s = turn-start signal settings k s c.requires.here c.find_up-start.ensures.place in
@@ -130,7 +131,7 @@ pub returns-clause-on : goal.returns-clause-on
 returns-clause-on g c =
     let signal = c.args.trace.now in
     let bunch = c.args.method.now.bunch in
-    let settings = settings_of c.args.method.now c.args.manual.now in
+    let settings = settings_of (fields_of c.args.method.now) c.args.manual.now in
     let k = c.args.window.at in
     let s = c.find_up-start.result.at in
     let low : k ≤ s = turn-start signal settings k s c.requires.here c.find_up-start.ensures.place in
@@ -148,7 +149,7 @@ pub returns-clause-found : goal.returns-clause-found
 returns-clause-found g c =
     let signal = c.args.trace.now in
     let bunch = c.args.method.now.bunch in
-    let settings = settings_of c.args.method.now c.args.manual.now in
+    let settings = settings_of (fields_of c.args.method.now) c.args.manual.now in
     let k = c.args.window.at in
     let s = c.find_up-start.result.at in
     let low : k ≤ s = turn-start signal settings k s c.requires.here c.find_up-start.ensures.place in
@@ -160,7 +161,7 @@ pub returns-clause-counted : goal.returns-clause-counted
 returns-clause-counted g c =
     let signal = c.args.trace.now in
     let bunch = c.args.method.now.bunch in
-    let settings = settings_of c.args.method.now c.args.manual.now in
+    let settings = settings_of (fields_of c.args.method.now) c.args.manual.now in
     let k = c.args.window.at in
     let s = c.find_up-start.result.at in
     let low : k ≤ s = turn-start signal settings k s c.requires.here c.find_up-start.ensures.place in
@@ -179,7 +180,7 @@ pub returns-clause-bounded : goal.returns-clause-bounded
 returns-clause-bounded g c =
     let signal = c.args.trace.now in
     let bunch = c.args.method.now.bunch in
-    let settings = settings_of c.args.method.now c.args.manual.now in
+    let settings = settings_of (fields_of c.args.method.now) c.args.manual.now in
     let k = c.args.window.at in
     let s = c.find_up-start.result.at in
     let low : k ≤ s = turn-start signal settings k s c.requires.here c.find_up-start.ensures.place in

@@ -1,15 +1,16 @@
 use Rattle.std.proofs.Common.{◌≡◌, ◌≤◌, length, arith, ap, sym, ◌∙◌, refl}
 use Rattle.cds_detect.specs.Classes.{classes, class_count}
 use Rattle.cds_detect.specs.Settings.{settings_of}
+use Rattle.cds_rules.specs.Fields.{fields_of}
 use Rattle.cds_detect.specs.Spans.{ends_climb}
 use Rattle.cds_detect.proofs.ClassesLaws.{length-classes}
-use Rattle.cds_detect.proofs.LeastLaws.{least-end}
+use Rattle.cds_trace.proofs.LeastLaws.{least-end}
 use Rattle.cds_detect.proofs.ClimbLaws.{climb-on, climb-ends, flat_run-start}
 use Rattle.cds_detect.proofs.scan.climb.Goals as goal
 
 pub loop-window-init : goal.loop-window-init
 loop-window-init g c =
-    let cs = classes c.args.trace.now (settings_of c.args.method.now c.args.manual.now) in
+    let cs = classes c.args.trace.now (settings_of (fields_of c.args.method.now) c.args.manual.now) in
     record {
       stands = c.next-window.ensures.stands;
       after = omega arith;
@@ -21,7 +22,7 @@ loop-window-init g c =
 
 pub loop-window-preserved : goal.loop-window-preserved
 loop-window-preserved g c =
-    let settings = settings_of c.args.method.now c.args.manual.now in
+    let settings = settings_of (fields_of c.args.method.now) c.args.manual.now in
     let cs = classes c.args.trace.now settings in
     let kept = c.loop-window.invariant in
     let many : length cs ≡ class_count (length c.args.trace.now.samples) c.args.method.now.bunch = length-classes c.args.trace.now settings in
@@ -38,7 +39,7 @@ loop-window-preserved g c =
 
 pub returns-in_default-clause-place : goal.returns-in_default-clause-place
 returns-in_default-clause-place g c =
-    let settings = settings_of c.args.method.now c.args.manual.now in
+    let settings = settings_of (fields_of c.args.method.now) c.args.manual.now in
     let cs = classes c.args.trace.now settings in
     let kept = c.loop-window.invariant in
     let many : length cs ≡ class_count (length c.args.trace.now.samples) c.args.method.now.bunch = length-classes c.args.trace.now settings in
@@ -47,7 +48,7 @@ returns-in_default-clause-place g c =
 
 pub returns-clause-place : goal.returns-clause-place
 returns-clause-place g c =
-    let settings = settings_of c.args.method.now c.args.manual.now in
+    let settings = settings_of (fields_of c.args.method.now) c.args.manual.now in
     let cs = classes c.args.trace.now settings in
     let kept = c.loop-window.invariant in
     let many : length cs ≡ class_count (length c.args.trace.now.samples) c.args.method.now.bunch = length-classes c.args.trace.now settings in

@@ -7,7 +7,7 @@ use Rattle.std.proofs.lemmas.Int.{ints}
 use Rattle.cds_trace.specs.Signal.{Signal, sample_at}
 use Rattle.cds_base.specs.Search.{least}
 use Rattle.cds_trace.specs.Extremes.{is_greatest, first_greatest}
-use Rattle.cds_detect.proofs.LeastLaws.{least-skip, least-here}
+use Rattle.cds_trace.proofs.LeastLaws.{least-skip, least-here}
 
 -- the number that passes while none before it does is the least
 least-is : (test : ℕ → Bool) (d k n i : ℕ) → i ≡ k + d → i < n → ((j : ℕ) → k ≤ j → j < i → test j ≡ false) → test i ≡ true → least test k n ≡ i
