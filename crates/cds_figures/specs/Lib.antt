@@ -1,4 +1,5 @@
 pub mod Crossings
 pub mod Noise
+pub mod Extents
 pub mod Figures
 pub mod PeakTime

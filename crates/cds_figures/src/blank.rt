@@ -1,5 +1,7 @@
-ghost use Rattle.std.specs.Prelude.{◌≡◌, ◌+◌, ◌*◌, ◌∷◌, ◌++◌, [], ◌≤◌, ℤ, List, Some, length};
-ghost use Rattle.cds_figures.specs.Noise.{samples_in, extent_of, noise_of};
+//! The noise of a blank.
+ghost use Rattle.std.specs.Prelude.{◌≡◌, ◌+◌, ◌*◌, ◌∷◌, ◌++◌, [], ◌<◌, ◌≤◌, ℤ, List, Some, IfSome, length};
+ghost use Rattle.cds_figures.specs.Extents.{extent_of};
+ghost use Rattle.cds_figures.specs.Noise.{samples_in, noise_of};
 
 use cds_base::{Steps, is_in_window};
 use cds_trace::Trace;
@@ -60,6 +62,7 @@ pub fn noise<L: Ledger>(
     steps: &mut Steps<L>,
 ) -> Option<u32>
     ensures value { result ≡ noise_of trace.now from_ms to_ms }
+    ensures positive { IfSome result (λ noise. 0 < noise) }
     ensures least { steps.old ≤ steps.new }
     ensures counted { steps.new ≤ steps.old + 2 * length trace.now.samples }
 {

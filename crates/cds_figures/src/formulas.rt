@@ -5,7 +5,7 @@ ghost use Rattle.cds_figures.specs.Figures.{resolution_of, plates_of, tailing_of
 use cds_base::{HEIGHT_LIMIT, LAST_TIME_US, Ratio};
 use cds_frac::Frac;
 
-/// The resolution of two peaks, 1.18 |t2 - t1| / (w1 + w2), with their apex times and their widths at half height in
+/// The resolution of two peaks, 1.18 |t2 - t1| / (w1 + w2), with their times and their widths at half height in
 /// microseconds. Each is at most `LAST_TIME_US`, and one width is positive. After USP General Chapter 621, half-height
 /// form of this project.
 pub fn resolution(t1: u64, w1: u64, t2: u64, w2: u64) -> Frac
@@ -19,7 +19,7 @@ pub fn resolution(t1: u64, w1: u64, t2: u64, w2: u64) -> Frac
     Frac::new(118 * i128::from(t1.abs_diff(t2)), 100 * i128::from(w1 + w2))
 }
 
-/// The number of theoretical plates, 5.54 t^2 / w^2, with the apex time and the width at half height in microseconds,
+/// The number of theoretical plates, 5.54 t^2 / w^2, with the peak's time and the width at half height in microseconds,
 /// both at most `LAST_TIME_US`, and the width positive. After USP General Chapter 621, half-height form of this
 /// project.
 pub fn plates(t: u64, w: u64) -> Frac
@@ -33,16 +33,16 @@ pub fn plates(t: u64, w: u64) -> Frac
 }
 
 /// The tailing of a peak, w / (2 d): its width at one twentieth of its height, which reaches from `left` to `right`, over
-/// twice the distance of the apex time `t` from `left`. Times are in microseconds, at most `LAST_TIME_US`, and `left`
-/// is before the apex. After USP General Chapter 621, in the form of this project.
-pub fn tailing(t: u64, left: u64, right: u64) -> Frac
-    requires time { t ≤ LAST_TIME_US }
+/// twice the distance of `left` from the apex sample, whose time is `apex_us`, whatever the rules of the peak's time are.
+/// Times are in microseconds, at most `LAST_TIME_US`, and `left` is before the apex sample. After USP General Chapter 621, in the form of this project.
+pub fn tailing(apex_us: u64, left: u64, right: u64) -> Frac
+    requires time { apex_us ≤ LAST_TIME_US }
     requires width { right ≤ LAST_TIME_US }
-    requires positive { left < t }
-    ensures { result ≡ tailing_of t left right }
+    requires positive { left < apex_us }
+    ensures { result ≡ tailing_of apex_us left right }
 {
     let width = i128::from(right) - i128::from(left);
-    Frac::new(width, 2 * i128::from(t - left))
+    Frac::new(width, 2 * i128::from(apex_us - left))
 }
 
 /// The signal to noise of a peak, 2 H / h, with its height and the noise of the blank in counts. The noise is positive,
@@ -55,7 +55,7 @@ pub fn signal_noise(height: Ratio, h: u32) -> Frac
     Frac::new(2 * height.num, i128::from(height.den) * i128::from(h))
 }
 
-/// The retention factor of a peak, (t - tM) / tM, with its apex time and the dead time in microseconds, both at most
+/// The retention factor of a peak, (t - tM) / tM, with its time and the dead time in microseconds, both at most
 /// `LAST_TIME_US`, and the dead time positive. It is negative for a peak before the dead time. After USP General
 /// Chapter 621, in the form of this project.
 pub fn retention(t: u64, dead: u64) -> Frac

@@ -1,9 +1,10 @@
+//! Figures, crossings, noise and times that are worked by hand.
 ghost use Rattle.std.specs.Prelude.{◌≡◌, ◌<◌};
 
 use super::*;
 use cds_base::{Line, Ratio, Steps, Text};
 use cds_frac::Frac;
-use cds_trace::Trace;
+use cds_trace::{Trace, height_by_span};
 use std::marker::Brand;
 use std::sync::ledger::{Blank, Ledger};
 use std::test::Fail;
@@ -95,7 +96,7 @@ fn widths<L: Ledger>(
     if start < line.from || apex < start || end < apex || line.to < end {
         return None;
     }
-    if crate::heights::height_by_span(apex, line, trace, &mut steps) <= 0 {
+    if height_by_span(apex, line, trace, &mut steps) <= 0 {
         return None;
     }
     let half = crossings(start, apex, end, line, 10, trace, &mut steps);
@@ -119,6 +120,55 @@ fn known_peaks_are_crossed_at_half_height_and_at_a_twentieth(rt: HostRuntime) ->
             Some((half, twentieth)),
             "for {range:?} of {samples:?}"
         );
+    }
+    Ok(())
+}
+
+// Samples, one in so many microseconds; the start, the apex and the end of a peak; its rules and its time.
+const TIMES: [(&[i32], u64, [u32; 3], u8, u64); 10] = [
+    (ONE, 1_000_000, [1, 5, 8], 1, 5_000_000),
+    (ONE, 1_000_000, [1, 5, 8], 2, 5_000_000),
+    (RISING, 1_000_000, [1, 5, 8], 1, 5_000_000),
+    (RISING, 1_000_000, [1, 5, 8], 2, 5_166_666),
+    (HIGH, 1_000_000, [1, 5, 7], 2, 5_166_666),
+    // An offset of -166,666.6 is rounded down.
+    (HIGH, 1_000_000, [7, 9, 12], 2, 8_833_333),
+    // A part behind a drop line, whose apex is its first sample, and one whose apex is its last.
+    (ONE, 1_000_000, [6, 6, 8], 2, 6_000_000),
+    (RISING, 1_000_000, [1, 5, 5], 2, 5_000_000),
+    // Half of a period behind the apex, and half of one before it, rounded down.
+    (&[0, 60, 60, 0], 7, [0, 1, 3], 2, 10),
+    (&[99, 100, 0], 1, [0, 1, 2], 2, 0),
+];
+
+// The time of a peak; None where its range is not within the trace, or the apex is no crest.
+fn time_of<L: Ledger>(blank: Blank, trace: &Trace, range: [u32; 3], rules: u8) -> Option<u64>
+    requires name { blank.name ≡ L.name }
+    requires parts { blank.parts ≡ L.parts }
+    requires some { 0 < blank.parts }
+{
+    let mut steps = Steps::<L>::new(blank);
+    let [start, apex, end] = range;
+    if apex < start || end < apex || end >= trace.len() {
+        return None;
+    }
+    if start < apex && apex < end {
+        let here = trace.at(apex, &mut steps);
+        let rises = trace.at(apex - 1, &mut steps) < here;
+        let falls = trace.at(apex + 1, &mut steps) <= here;
+        if !rises || !falls {
+            return None;
+        }
+    }
+    Some(peak_time(start, apex, end, rules, trace, &mut steps))
+}
+
+#[test]
+fn a_peak_has_the_time_of_its_vertex_under_rules_2(rt: HostRuntime) -> Result<(), Fail> {
+    for (samples, period, range, rules, want) in TIMES {
+        let trace = Trace::from_samples(rt.alloc(), period, samples)?;
+        let got = time_of::<Brand>(Blank::new(1), &trace, range, rules);
+        assert_eq!(rt; got, Some(want), "for {range:?} of {samples:?}");
     }
     Ok(())
 }

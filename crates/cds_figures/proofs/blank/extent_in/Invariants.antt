@@ -1,5 +1,6 @@
 use Rattle.std.proofs.Common.{◌≡◌, ◌+◌, ◌≤◌}
-use Rattle.cds_figures.specs.Noise.{extent_of, samples_in}
+use Rattle.cds_figures.specs.Extents.{extent_of}
+use Rattle.cds_figures.specs.Noise.{samples_in}
 use Rattle.cds_figures.proofs.blank.extent_in.Given as goal
 
 abbrev pub invariant-loop-i : goal.invariant-loop-i

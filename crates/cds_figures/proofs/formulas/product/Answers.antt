@@ -1,4 +1,4 @@
-use Rattle.std.proofs.Common.{◌≡◌, pos, ◌*ℤ◌, ◌^◌, arith}
+use Rattle.std.proofs.Common.{◌≡◌, pos, ◌*ℤ◌, arith}
 use Rattle.std.proofs.lemmas.Grind.{common_steps}
 use mir.Syntax.{w128}
 use mir.Val.{to_z, of_z}

@@ -1,4 +1,4 @@
-use Rattle.std.proofs.Common.{◌≡◌, ◌-◌, ◌*◌, ◌≤◌, length, arith, rules}
+use Rattle.std.proofs.Common.{◌-◌, ◌*◌, ◌≤◌, length, arith, rules}
 use Rattle.std.proofs.lemmas.Int.{to_z-of_z}
 use Rattle.std.proofs.Math.Nat.{mul-le-mul_right}
 use mir.Syntax.{w64}
