@@ -1,11 +1,11 @@
--- The chord between two samples of a signal: the straight line through both.
-use Rattle.std.specs.Prelude.{ℕ, ◌-◌, ℤ, pos, ◌+ℤ◌, ◌*ℤ◌, Bool, int_lt, int_le}
+-- The samples of a signal over and under a chord between two of them.
+use Rattle.std.specs.Prelude.{ℕ, ◌-◌, ℤ, pos, ◌*ℤ◌, Bool, int_lt, int_le}
 use Rattle.cds_trace.specs.Signal.{Signal, sample_at}
+use Rattle.cds_trace.specs.Heights.{chord, level_by_span}
 
--- the level at sample k of the chord from sample a to sample b, times b - a: each end counts by the distance of k from
--- the other end
+-- the level at sample k of the chord from sample a to sample b, times b - a
 abbrev pub chord_by_span : Signal → ℕ → ℕ → ℕ → ℤ
-chord_by_span signal a b k = sample_at signal a *ℤ pos (b - k) +ℤ sample_at signal b *ℤ pos (k - a)
+chord_by_span signal a b k = level_by_span (chord signal a b) k
 
 -- whether sample k does not lie under the chord from sample a to sample b
 abbrev pub is_over : Signal → ℕ → ℕ → ℕ → Bool

@@ -1,14 +1,14 @@
 -- The points of a cluster, between which its baseline is stretched.
 use Rattle.std.specs.Prelude.{ℕ, Bool, true, false, List, [], ◌∷◌, ◌++◌, drop, if◌then◌else◌}
-use Rattle.cds_base.specs.declared.cluster.Boundary.{Boundary}
-use Rattle.cds_base.specs.declared.cluster.Boundary.TheVariants.{Start, Valley, Drop}
+use Rattle.cds_base.specs.declared.cluster.Cut.{Cut}
+use Rattle.cds_base.specs.declared.cluster.Cut.TheVariants.{Start, Valley, Drop}
 use Rattle.cds_base.specs.declared.cluster.Part.{Part}
 use Rattle.cds_base.specs.declared.cluster.Cluster.{Cluster}
 use Rattle.cds_trace.specs.Signal.{Signal}
 use Rattle.cds_baseline.specs.Nodes.{node_samples}
 
 -- whether the left end of a part is a valley
-abbrev pub is_valley : Boundary → Bool
+abbrev pub is_valley : Cut → Bool
 is_valley Start = false
 is_valley Valley = true
 is_valley Drop = false

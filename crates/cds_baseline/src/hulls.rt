@@ -1,10 +1,32 @@
+//! The chain of vertices over points, as it is kept while points are added.
 ghost use Rattle.std.specs.Prelude.{◌≡◌, ◌+◌, ◌-◌, ◌<◌, ◌≤◌, false, IfOk, length, int_lt, pos, ◌*ℤ◌, ◌+ℤ◌};
 ghost use Rattle.std.specs.Vec.{vec_len};
 ghost use Rattle.cds_baseline.specs.Nodes.{sample_of};
 ghost use Rattle.cds_baseline.specs.Chain.{level_of, vertex, under_of, IsRising, IsPoints, ChainOf, ReachedFrom, hides_top};
 
-use cds_base::NoMemory;
+use cds_base::{Line, NoMemory};
+use cds_trace::level_by_span;
 use std::alloc::Global;
+
+/// The chain over all points: their numbers, in order.
+pub(crate) fn chain_over(
+    alloc: Global,
+    points: &[u32],
+    levels: &[i32],
+    fixed: &[bool],
+) -> Result<Vec<usize>, NoMemory>
+    requires points { IsPoints points.now levels.now fixed.now }
+    ensures chain { IfOk result (λ c. ChainOf points.now levels.now fixed.now c.items (vec_len c)) }
+    ensures whole { IfOk result (λ c. 0 < length points.now → (0 < vec_len c) × (vertex c.items (vec_len c - 1) + 1 ≡ length points.now)) }
+{
+    let mut chain = Vec::with_capacity(alloc, points.len())?;
+    for next in 0..points.len() {
+        let count = kept(chain.as_slice(), next, points, levels, fixed);
+        chain.truncate(count);
+        chain.push(next)?;
+    }
+    Ok(chain)
+}
 
 /// A point of a cluster: its sample and the level there.
 #[derive(Clone, Copy)]
@@ -20,11 +42,19 @@ fn product(level: i32, samples: u32) -> i64
     i64::from(level) * i64::from(samples)
 }
 
-/// The sum of two products.
-fn sum(left: i64, right: i64) -> i128
-    ensures { result ≡ left +ℤ right }
+/// The level at `i` of the chord from `a` to `b`, times the samples from the one to the other.
+fn chord_level(a: Point, i: Point, b: Point) -> i64
+    requires left { a.sample ≤ i.sample }
+    requires right { i.sample ≤ b.sample }
+    ensures { result ≡ a.level *ℤ pos (b.sample - i.sample) +ℤ b.level *ℤ pos (i.sample - a.sample) }
 {
-    i128::from(left) + i128::from(right)
+    let chord = Line {
+        from: a.sample,
+        from_y: a.level,
+        to: b.sample,
+        to_y: b.level,
+    };
+    level_by_span(&chord, i.sample)
 }
 
 /// Whether the chord from `a` to `b` passes above `i`.
@@ -34,11 +64,7 @@ fn is_below(a: Point, i: Point, b: Point) -> bool
     ensures { result ≡ int_lt (i.level *ℤ pos (b.sample - a.sample))
         (a.level *ℤ pos (b.sample - i.sample) +ℤ b.level *ℤ pos (i.sample - a.sample)) }
 {
-    let chord = sum(
-        product(a.level, b.sample - i.sample),
-        product(b.level, i.sample - a.sample),
-    );
-    i128::from(product(i.level, b.sample - a.sample)) < chord
+    product(i.level, b.sample - a.sample) < chord_level(a, i, b)
 }
 
 /// Point `i`.
@@ -112,24 +138,4 @@ fn kept(chain: &[usize], next: usize, points: &[u32], levels: &[i32], fixed: &[b
         count -= 1;
     }
     count
-}
-
-/// The chain over all points: their numbers, in order.
-pub(crate) fn chain_over(
-    alloc: Global,
-    points: &[u32],
-    levels: &[i32],
-    fixed: &[bool],
-) -> Result<Vec<usize>, NoMemory>
-    requires points { IsPoints points.now levels.now fixed.now }
-    ensures chain { IfOk result (λ c. ChainOf points.now levels.now fixed.now c.items (vec_len c)) }
-    ensures whole { IfOk result (λ c. 0 < length points.now → (0 < vec_len c) × (vertex c.items (vec_len c - 1) + 1 ≡ length points.now)) }
-{
-    let mut chain = Vec::with_capacity(alloc, points.len())?;
-    for next in 0..points.len() {
-        let count = kept(chain.as_slice(), next, points, levels, fixed);
-        chain.truncate(count);
-        chain.push(next)?;
-    }
-    Ok(chain)
 }

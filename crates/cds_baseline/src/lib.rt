@@ -1,7 +1,7 @@
 //! Where a baseline bends, and where a tangent ends.
 //!
-//! Begin at [`nodes`]: it gives the nodes of the baseline of a cluster. [`hull`] finds them among given points, and
-//! [`tangent`] gives the sample at which the tangent from a valley ends.
+//! Begin at [`nodes`]: it gives the nodes of the baseline of a cluster. [`tangent`] gives the sample at which the tangent
+//! from a valley ends.
 #![tactic(auto)]
 
 mod baselines;
@@ -11,7 +11,7 @@ mod points;
 mod slopes;
 mod tangents;
 
-pub use baselines::{hull, nodes};
+pub use baselines::nodes;
 pub use node_list::Nodes;
 pub use tangents::tangent;
 

@@ -1,4 +1,5 @@
-ghost use Rattle.std.specs.Prelude.{◌≡◌};
+//! The nodes of a baseline.
+ghost use Rattle.std.specs.Prelude.{◌≡◌, length, slice_get};
 
 use std::marker::Model;
 
@@ -29,5 +30,19 @@ impl Nodes {
         ensures { result.now ≡ self.now }
     {
         self.samples.as_slice()
+    }
+
+    /// How many nodes there are.
+    pub fn len(&self) -> usize
+        ensures { result ≡ length self.now }
+    {
+        self.samples.len()
+    }
+
+    /// The sample of the node at a place, counted from 0. None exactly where there are not so many.
+    pub fn get(&self, i: usize) -> Option<u32>
+        ensures { result ≡ slice_get self.now i }
+    {
+        self.samples.get(i).copied()
     }
 }

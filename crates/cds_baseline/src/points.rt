@@ -1,7 +1,8 @@
+//! The points of a cluster.
 ghost use Rattle.std.specs.Prelude.{◌≡◌, true, [], ◌∷◌, ◌++◌, IfOk, length};
 ghost use Rattle.cds_baseline.specs.Cluster.{is_valley, valleys, marks};
 
-use cds_base::{Boundary, NoMemory, Part};
+use cds_base::{Cut, NoMemory, Part};
 use std::alloc::Global;
 
 /// Whether a part begins at a valley.
@@ -9,8 +10,8 @@ fn is_valley(part: Part) -> bool
     ensures { result ≡ is_valley part.left }
 {
     match part.left {
-        Boundary::Valley => true,
-        Boundary::Start | Boundary::Drop => false,
+        Cut::Valley => true,
+        Cut::Start | Cut::Drop => false,
     }
 }
 

@@ -1,3 +1,4 @@
+//! Slopes, as rises over runs.
 ghost use Rattle.std.specs.Prelude.{◌≡◌, ◌^◌, ◌≤◌, pos, ◌*ℤ◌, int_le, unsigned_abs};
 
 /// A rise of the signal over a run of samples.

@@ -1,3 +1,4 @@
+//! Where a tangent ends.
 ghost use Rattle.std.specs.Prelude.{◌≡◌, ◌+◌, ◌-◌, ◌^◌, ◌<◌, ◌≤◌, ℕ, true, length, ◌-ℤ◌, unsigned_abs};
 ghost use Rattle.cds_trace.specs.Signal.{sample_at, IsSample};
 ghost use Rattle.cds_baseline.specs.Chord.{is_over};

@@ -1,7 +1,8 @@
+//! Nodes and tangents that are worked by hand.
 ghost use Rattle.std.specs.Prelude.{◌≡◌, ◌<◌};
 
 use super::*;
-use cds_base::{Boundary, Cluster, NoMemory, Part, PartList, Steps};
+use cds_base::{Cluster, Cut, NoMemory, Part, Parts, Steps};
 use cds_trace::Trace;
 use std::alloc::Global;
 use std::marker::Brand;
@@ -18,11 +19,11 @@ const FLAT: &[i32] = &[0, 30, 0, 30, 0, 30, 0];
 
 // Samples; where the three parts of a cluster meet; the left ends of the second and third part and whether they are
 // covered; whether the baseline is forced; the nodes.
-const CLUSTERS: [(&[i32], [u32; 4], [Boundary; 2], [bool; 2], bool, &[u32]); 9] = [
+const CLUSTERS: [(&[i32], [u32; 4], [Cut; 2], [bool; 2], bool, &[u32]); 9] = [
     (
         TWO,
         [1, 7, 9, 12],
-        [Boundary::Valley, Boundary::Drop],
+        [Cut::Valley, Cut::Drop],
         [false, false],
         false,
         &[1, 12],
@@ -30,7 +31,7 @@ const CLUSTERS: [(&[i32], [u32; 4], [Boundary; 2], [bool; 2], bool, &[u32]); 9] 
     (
         TWO,
         [1, 7, 9, 12],
-        [Boundary::Valley, Boundary::Drop],
+        [Cut::Valley, Cut::Drop],
         [true, true],
         false,
         &[1, 7, 12],
@@ -38,7 +39,7 @@ const CLUSTERS: [(&[i32], [u32; 4], [Boundary; 2], [bool; 2], bool, &[u32]); 9] 
     (
         TWO,
         [1, 7, 9, 12],
-        [Boundary::Valley, Boundary::Drop],
+        [Cut::Valley, Cut::Drop],
         [true, true],
         true,
         &[1, 12],
@@ -46,7 +47,7 @@ const CLUSTERS: [(&[i32], [u32; 4], [Boundary; 2], [bool; 2], bool, &[u32]); 9] 
     (
         DEEP,
         [1, 7, 9, 12],
-        [Boundary::Valley, Boundary::Drop],
+        [Cut::Valley, Cut::Drop],
         [false, false],
         false,
         &[1, 7, 12],
@@ -54,7 +55,7 @@ const CLUSTERS: [(&[i32], [u32; 4], [Boundary; 2], [bool; 2], bool, &[u32]); 9] 
     (
         DEEP,
         [1, 7, 9, 12],
-        [Boundary::Drop, Boundary::Valley],
+        [Cut::Drop, Cut::Valley],
         [false, false],
         false,
         &[1, 12],
@@ -62,7 +63,7 @@ const CLUSTERS: [(&[i32], [u32; 4], [Boundary; 2], [bool; 2], bool, &[u32]); 9] 
     (
         LINED,
         [0, 2, 4, 6],
-        [Boundary::Valley, Boundary::Valley],
+        [Cut::Valley, Cut::Valley],
         [false, false],
         false,
         &[0, 4, 6],
@@ -70,7 +71,7 @@ const CLUSTERS: [(&[i32], [u32; 4], [Boundary; 2], [bool; 2], bool, &[u32]); 9] 
     (
         LINED,
         [0, 2, 4, 6],
-        [Boundary::Valley, Boundary::Valley],
+        [Cut::Valley, Cut::Valley],
         [true, false],
         false,
         &[0, 2, 4, 6],
@@ -78,7 +79,7 @@ const CLUSTERS: [(&[i32], [u32; 4], [Boundary; 2], [bool; 2], bool, &[u32]); 9] 
     (
         FLAT,
         [0, 2, 4, 6],
-        [Boundary::Valley, Boundary::Valley],
+        [Cut::Valley, Cut::Valley],
         [false, false],
         false,
         &[0, 6],
@@ -86,7 +87,7 @@ const CLUSTERS: [(&[i32], [u32; 4], [Boundary; 2], [bool; 2], bool, &[u32]); 9] 
     (
         FLAT,
         [0, 2, 4, 6],
-        [Boundary::Valley, Boundary::Valley],
+        [Cut::Valley, Cut::Valley],
         [false, true],
         false,
         &[0, 4, 6],
@@ -108,7 +109,7 @@ fn nodes_of<L: Ledger>(
     blank: Blank,
     trace: &Trace,
     cuts: [u32; 4],
-    lefts: [Boundary; 2],
+    lefts: [Cut; 2],
     covered: [bool; 2],
     forced: bool,
 ) -> Result<Option<Nodes>, NoMemory>
@@ -127,7 +128,7 @@ fn nodes_of<L: Ledger>(
             start,
             apex: start,
             end: one,
-            left: Boundary::Start,
+            left: Cut::Start,
         },
         Part {
             start: one,
@@ -142,7 +143,7 @@ fn nodes_of<L: Ledger>(
             left: third,
         },
     ];
-    let parts = PartList::from_vec(Vec::from_slice(alloc, parts.as_slice())?);
+    let parts = Parts::from_vec(Vec::from_slice(alloc, parts.as_slice())?);
     let cluster = Cluster {
         start,
         end,
