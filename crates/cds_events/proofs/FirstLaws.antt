@@ -1,11 +1,13 @@
 -- The first number of a range that passes a test, and the first best one by a test of pairs.
-use Rattle.std.proofs.Common.{◌≡◌, ℕ, zero, suc, ◌+◌, ◌-◌, ◌<◌, ◌≤◌, Bool, true, false, Option, Some, refl, arith, ap, sym, ◌∙◌, inl, inr, ◌⊎◌}
+use Rattle.std.proofs.Common.{◌≡◌, ℕ, zero, suc, ◌+◌, ◌-◌, ◌<◌, ◌≤◌, Bool, true, false, Option, Some, refl, arith, ap}
+use Rattle.std.proofs.Common.{sym, ◌∙◌, inl, inr, ◌⊎◌}
 use Rattle.std.specs.List.{range_with_len, find, list_all}
 use Rattle.std.proofs.lemmas.Bool.{cases_eq, cases_Bool, and_from, and_parts, both_ways, false_from_ne_true}
 use Rattle.cds_base.specs.Search.{least}
 
 -- the number that passes while none before it does is found
-find-is : (test : ℕ → Bool) (d k n i : ℕ) → i ≡ k + d → d < n → ((j : ℕ) → k ≤ j → j < i → test j ≡ false) → test i ≡ true → find test (range_with_len k n) ≡ Some i
+find-is : (test : ℕ → Bool) (d k n i : ℕ) → i ≡ k + d → d < n → ((j : ℕ) → k ≤ j → j < i → test j ≡ false) →
+    test i ≡ true → find test (range_with_len k n) ≡ Some i
 find-is test d k zero i e l fails passes = absurd (omega arith)
 find-is test zero k (suc n) i e l fails passes =
     let same : i ≡ k = omega arith in
@@ -15,7 +17,8 @@ find-is test (suc d) k (suc n) i e l fails passes =
     let before : test k ≡ false = fails k (omega arith) (omega arith) in
     rw before (find-is test d (k + 1) n i (omega arith) (omega arith) (λ j a b. fails j (omega arith) b) passes)
 
-pub first-is : (test : ℕ → Bool) (from to i : ℕ) → from ≤ i → i ≤ to → ((j : ℕ) → from ≤ j → j < i → test j ≡ false) → test i ≡ true → least test from (to + 1) ≡ i
+pub first-is : (test : ℕ → Bool) (from to i : ℕ) → from ≤ i → i ≤ to → ((j : ℕ) → from ≤ j → j < i → test j ≡ false) →
+    test i ≡ true → least test from (to + 1) ≡ i
 unfolding least
 first-is test from to i low high fails passes =
     rw (find-is test (i - from) from (to + 1 - from) i (omega arith) (omega arith) fails passes) refl
@@ -31,13 +34,24 @@ record Found (test : ℕ → Bool) (k n i : ℕ) : Type 0 where
 find-here : (test : ℕ → Bool) (k n : ℕ) → test k ≡ true → find test (range_with_len k (suc n)) ≡ Some k
 find-here test k n here = rw here refl
 
-find-skip : (test : ℕ → Bool) (k n : ℕ) (found : Option ℕ) → test k ≡ false → find test (range_with_len (k + 1) n) ≡ found → find test (range_with_len k (suc n)) ≡ found
+find-skip : (test : ℕ → Bool) (k n : ℕ) (found : Option ℕ) → test k ≡ false →
+    find test (range_with_len (k + 1) n) ≡ found → find test (range_with_len k (suc n)) ≡ found
 find-skip test k n found before is = rw before is
 
 found : (test : ℕ → Bool) (k n some : ℕ) → k ≤ some → some < k + n → test some ≡ true → (i : ℕ) × Found test k n i
 found test k zero some l m passes = absurd (omega arith)
 found test k (suc n) some l m passes = elim (cases_Bool (test k)) [
-  | inl here ↦ (k, record { is = find-here test k n here; low = omega arith; high = omega arith; passes = here; fails = λ j a b. absurd (omega arith) })
+  | inl here ↦ (
+    k,
+    record {
+      is = find-here test k n here;
+      low = omega arith;
+      high = omega arith;
+      passes = here;
+      fails =
+          λ j a b. absurd (omega arith);
+    },
+  )
   | inr before ↦ (
       let other : (k ≡ some) → ⊥ = λ e. both_ways (test k) before (ap test e ∙ passes) in
       let later = found test (k + 1) n some (omega arith) (omega arith) passes in (
@@ -63,8 +77,10 @@ pub record IsOrder (beats : ℕ → ℕ → Bool) : Type 0 where
 itself : (beats : ℕ → ℕ → Bool) → IsOrder beats → (i : ℕ) → beats i i ≡ true
 itself beats order i = elim (order.total i i) [ inl e ↦ e | inr e ↦ e ]
 
-best : (beats : ℕ → ℕ → Bool) → IsOrder beats → (k n : ℕ) → (i : ℕ) × (k ≤ i) × (i ≤ k + n) × ((m : ℕ) → k ≤ m → m ≤ k + n → beats i m ≡ true)
-best beats order k zero = (k, omega arith, omega arith, λ m a b. let e : k ≡ m = omega arith in ap (beats k) (sym e) ∙ itself beats order k)
+best : (beats : ℕ → ℕ → Bool) → IsOrder beats → (k n : ℕ) →
+    (i : ℕ) × (k ≤ i) × (i ≤ k + n) × ((m : ℕ) → k ≤ m → m ≤ k + n → beats i m ≡ true)
+best beats order k zero =
+    (k, omega arith, omega arith, λ m a b. let e : k ≡ m = omega arith in ap (beats k) (sym e) ∙ itself beats order k)
 best beats order k (suc n) =
     let so_far = best beats order k n in
     let last : ℕ = k + suc n in
@@ -89,12 +105,15 @@ best beats order k (suc n) =
       )
     ]
 
-all-range : (test : ℕ → Bool) (a n : ℕ) → ((k : ℕ) → a ≤ k → k < a + n → test k ≡ true) → list_all test (range_with_len a n) ≡ true
+all-range : (test : ℕ → Bool) (a n : ℕ) → ((k : ℕ) → a ≤ k → k < a + n → test k ≡ true) →
+    list_all test (range_with_len a n) ≡ true
 all-range test a zero passes = refl
 all-range test a (suc n) passes =
-    and_from (test a) (list_all test (range_with_len (a + 1) n)) (passes a (omega arith) (omega arith)) (all-range test (a + 1) n (λ k l m. passes k (omega arith) (omega arith)))
+    and_from (test a) (list_all test (range_with_len (a + 1) n)) (passes a (omega arith) (omega arith))
+    (all-range test (a + 1) n (λ k l m. passes k (omega arith) (omega arith)))
 
-all-range_tells : (test : ℕ → Bool) (a n k : ℕ) → a ≤ k → k < a + n → list_all test (range_with_len a n) ≡ true → test k ≡ true
+all-range_tells : (test : ℕ → Bool) (a n k : ℕ) → a ≤ k → k < a + n → list_all test (range_with_len a n) ≡ true →
+    test k ≡ true
 all-range_tells test a zero k l m all = absurd (omega arith)
 all-range_tells test a (suc n) k l m all =
     let parts = and_parts (test a) (list_all test (range_with_len (a + 1) n)) all in
@@ -113,21 +132,27 @@ pub record IsFirstBest (beats : ℕ → ℕ → Bool) (from to i : ℕ) : Type 0
 abbrev pub is_best : (ℕ → ℕ → Bool) → ℕ → ℕ → ℕ → Bool
 is_best beats from to i = list_all (beats i) (range_with_len from (to + 1 - from))
 
-pub first-best_is : (beats : ℕ → ℕ → Bool) (from to i : ℕ) → IsFirstBest beats from to i → least (is_best beats from to) from (to + 1) ≡ i
+pub first-best_is : (beats : ℕ → ℕ → Bool) (from to i : ℕ) → IsFirstBest beats from to i →
+    least (is_best beats from to) from (to + 1) ≡ i
 first-best_is beats from to i first_best =
     first-is (is_best beats from to) from to i first_best.low first_best.high
     (λ j l m. false_from_ne_true (is_best beats from to j) (λ all.
-    both_ways (beats j i) (first_best.before j l m) (all-range_tells (beats j) from (to + 1 - from) i first_best.low (omega (arith, first_best.high)) all)))
+    both_ways (beats j i) (first_best.before j l m) (all-range_tells (beats j) from (to + 1 - from) i first_best.low
+    (omega (arith, first_best.high)) all)))
     (all-range (beats i) from (to + 1 - from) (λ k l m. first_best.most k l (omega arith)))
 
-pub first-best : (beats : ℕ → ℕ → Bool) → IsOrder beats → (from to : ℕ) → from ≤ to → IsFirstBest beats from to (least (is_best beats from to) from (to + 1))
+pub first-best : (beats : ℕ → ℕ → Bool) → IsOrder beats → (from to : ℕ) → from ≤ to →
+    IsFirstBest beats from to (least (is_best beats from to) from (to + 1))
 unfolding least
 first-best beats order from to l =
     let some = best beats order from (to - from) in
-    let all : is_best beats from to some.0 ≡ true = all-range (beats some.0) from (to + 1 - from) (λ k a b. some.3 k a (omega arith)) in
+    let all : is_best beats from to some.0 ≡ true =
+    all-range (beats some.0) from (to + 1 - from) (λ k a b. some.3 k a (omega arith)) in
     let here = found (is_best beats from to) from (to + 1 - from) some.0 some.1 (omega (arith, some.2)) all in
     let top : ℕ = here.0 in
-    let most : (k : ℕ) → from ≤ k → k ≤ to → beats top k ≡ true = λ k a b. all-range_tells (beats top) from (to + 1 - from) k a (omega arith) here.1.passes in
+    let most : (k : ℕ) → from ≤ k → k ≤ to →
+    beats top k ≡ true = λ k a b. all-range_tells (beats top) from (to + 1 - from) k a
+    (omega arith) here.1.passes in
     let found_best : IsFirstBest beats from to top = record {
       low = here.1.low;
       high = omega (arith, here.1.high);

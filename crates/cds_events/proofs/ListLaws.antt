@@ -1,5 +1,6 @@
 -- Lists whose elements, or whose pairs of elements, pass a test.
-use Rattle.std.proofs.Common.{◌≡◌, suc, ◌<◌, Bool, true, false, List, [], ◌∷◌, length, map, Some, None, refl, arith, ap, sym, ◌∙◌, subst, inl, inr}
+use Rattle.std.proofs.Common.{◌≡◌, suc, ◌<◌, Bool, true, false, List, [], ◌∷◌, length, map, Some, None, refl, arith, ap}
+use Rattle.std.proofs.Common.{sym, ◌∙◌, subst, inl, inr}
 use Rattle.std.specs.Prelude.{All}
 use Rattle.std.specs.List.{find, flat_map, list_any, AllPairs}
 use Rattle.std.proofs.lemmas.Bool.{cases_Bool, or_parts}
@@ -15,7 +16,8 @@ find-passes test (y ∷ ys) x e = elim (cases_Bool (test y)) [
 ]
 
 -- what holds of each element holds of what is found
-pub find-all : {X : Type 0} (P : X → Type 0) (test : X → Bool) (xs : List X) (x : X) → find test xs ≡ Some x → All P xs → P x
+pub find-all : {X : Type 0} (P : X → Type 0) (test : X → Bool) (xs : List X) (x : X) → find test xs ≡ Some x →
+    All P xs → P x
 find-all P test [] x e all = absurd (cc)
 find-all P test (y ∷ ys) x e all = elim (cases_Bool (test y)) [
   | inl here ↦ (let same : Some y ≡ Some x = rw here at e in let is : y ≡ x = cc in subst P is (All-head P y ys all))
@@ -36,15 +38,18 @@ none-any test (y ∷ ys) e =
     let parts = or_parts (test y) (list_any test ys) e in
     All-cons (λ x. test x ≡ false) y ys parts.0 (none-any test ys parts.1)
 
-pub flat_map-agree : {X Y : Type 0} (f h : X → List Y) (xs : List X) → All (λ x. f x ≡ h x) xs → flat_map f xs ≡ flat_map h xs
+pub flat_map-agree : {X Y : Type 0} (f h : X → List Y) (xs : List X) → All (λ x. f x ≡ h x) xs →
+    flat_map f xs ≡ flat_map h xs
 flat_map-agree f h [] all = refl
 flat_map-agree f h (x ∷ xs) all =
     rw (All-head (λ x. f x ≡ h x) x xs all, flat_map-agree f h xs (All-tail (λ x. f x ≡ h x) x xs all)) refl
 
-pub All-flat_map : {X Y : Type 0} (P : Y → Type 0) (f : X → List Y) (xs : List X) → All (λ x. All P (f x)) xs → All P (flat_map f xs)
+pub All-flat_map : {X Y : Type 0} (P : Y → Type 0) (f : X → List Y) (xs : List X) → All (λ x. All P (f x)) xs →
+    All P (flat_map f xs)
 All-flat_map P f [] all = All-nil P
 All-flat_map P f (x ∷ xs) all =
-    All-append P (f x) (flat_map f xs) (All-head (λ x. All P (f x)) x xs all) (All-flat_map P f xs (All-tail (λ x. All P (f x)) x xs all))
+    All-append P (f x) (flat_map f xs) (All-head (λ x. All P (f x)) x xs all)
+    (All-flat_map P f xs (All-tail (λ x. All P (f x)) x xs all))
 
 pub pairs-head : {X : Type 0} (R : X → X → Type 0) (x : X) (xs : List X) → AllPairs R (x ∷ xs) → All (R x) xs
 pairs-head R x xs all = λ k d l. all 0 (suc k) d (omega arith) (omega arith)
@@ -52,7 +57,8 @@ pairs-head R x xs all = λ k d l. all 0 (suc k) d (omega arith) (omega arith)
 pub pairs-tail : {X : Type 0} (R : X → X → Type 0) (x : X) (xs : List X) → AllPairs R (x ∷ xs) → AllPairs R xs
 pairs-tail R x xs all = λ i j d l m. all (suc i) (suc j) d (omega arith) (omega arith)
 
-pub pairs-map : {X Y : Type 0} (R : Y → Y → Type 0) (f : X → Y) (e : X) (xs : List X) → AllPairs (λ a b. R (f a) (f b)) xs → AllPairs R (map f xs)
+pub pairs-map : {X Y : Type 0} (R : Y → Y → Type 0) (f : X → Y) (e : X) (xs : List X) →
+    AllPairs (λ a b. R (f a) (f b)) xs → AllPairs R (map f xs)
 pairs-map R f e xs all = λ i j d l m.
     let second : j < length xs = omega (arith, length-map xs f) in
     let first : i < length xs = omega arith in

@@ -1,5 +1,6 @@
 -- Forced pieces lie within the trace, and share at most an end.
-use Rattle.std.proofs.Common.{◌≡◌, ℕ, ◌-◌, ◌<◌, ◌≤◌, Bool, true, false, ◌&&◌, List, [], ◌∷◌, ◌++◌, Option, Some, None, length, get_or, fold, refl, arith, ◌∙◌, inl, inr}
+use Rattle.std.proofs.Common.{◌≡◌, ℕ, ◌-◌, ◌<◌, ◌≤◌, Bool, true, false, ◌&&◌, List, [], ◌∷◌, ◌++◌, Option, Some, None}
+use Rattle.std.proofs.Common.{length, get_or, fold, refl, arith, ◌∙◌, inl, inr}
 use Rattle.std.specs.Prelude.{All, nat_lt, min, ◌⊎◌}
 use Rattle.std.specs.List.{list_any}
 use Rattle.std.specs.Option.{IfSome}
@@ -8,8 +9,9 @@ use Rattle.std.proofs.lemmas.List.Elements.{All-nil, All-push}
 use Rattle.cds_base.specs.declared.event.Event.{Event}
 use Rattle.cds_base.specs.declared.event.Event.TheVariants.{Inhibit, Valley, Drop, Baseline, Slope, Skim}
 use Rattle.cds_trace.specs.Signal.{Signal}
-use Rattle.cds_events.specs.declared.pieces.Piece.{Piece}
-use Rattle.cds_events.specs.Pieces.{sample_of_time, piece_between, piece_of, overlaps, and_piece, and_piece_of, pieces_of}
+use Rattle.cds_events.specs.Pieces.{Piece}
+use Rattle.cds_events.specs.Pieces.{sample_of_time, piece_between, piece_of, overlaps, and_piece, and_piece_of}
+use Rattle.cds_events.specs.Pieces.{pieces_of}
 use Rattle.cds_events.proofs.ListLaws.{none-any}
 
 -- a piece of the trace
@@ -51,7 +53,8 @@ apart-order a b same_or_apart other l = elim same_or_apart [
   ]
 ]
 
-piece_between-is : (signal : Signal) (from to : ℕ) → 2 ≤ length signal.samples → IfSome (piece_between signal from to) (IsPiece signal)
+piece_between-is : (signal : Signal) (from to : ℕ) → 2 ≤ length signal.samples →
+    IfSome (piece_between signal from to) (IsPiece signal)
 piece_between-is signal from to enough =
     let start : ℕ = sample_of_time signal.period from in
     let end : ℕ = min (sample_of_time signal.period to) (length signal.samples - 1) in
@@ -60,7 +63,8 @@ piece_between-is signal from to enough =
       | inr e ↦ rw e tt
     ]
 
-piece_of-is : (signal : Signal) (event : Event) → 2 ≤ length signal.samples → IfSome (piece_of signal event) (IsPiece signal)
+piece_of-is : (signal : Signal) (event : Event) → 2 ≤ length signal.samples →
+    IfSome (piece_of signal event) (IsPiece signal)
 piece_of-is signal (Inhibit from to) enough = tt
 piece_of-is signal (Valley from to) enough = tt
 piece_of-is signal (Drop at) enough = tt
@@ -68,30 +72,40 @@ piece_of-is signal (Baseline from to) enough = piece_between-is signal from to e
 piece_of-is signal (Slope at on off) enough = tt
 piece_of-is signal (Skim from to) enough = tt
 
-add-piece : (signal : Signal) (pieces : List Piece) (piece : Piece) → ArePieces signal pieces → IsPiece signal piece → list_any (overlaps piece) pieces ≡ false → ArePieces signal (pieces ++ piece ∷ [])
+add-piece : (signal : Signal) (pieces : List Piece) (piece : Piece) → ArePieces signal pieces → IsPiece signal piece →
+    list_any (overlaps piece) pieces ≡ false → ArePieces signal (pieces ++ piece ∷ [])
 add-piece signal pieces piece are is none =
     let free : All (λ other. overlaps piece other ≡ false) pieces = none-any (overlaps piece) pieces none in
     let from_piece : All (SameOrApart piece) (pieces ++ piece ∷ []) =
     All-push (SameOrApart piece) pieces piece (λ k d l. inr (free k d l)) (inl refl) in
     let from_others : All (λ a. All (SameOrApart a) (pieces ++ piece ∷ [])) pieces =
-    λ k d l. All-push (SameOrApart (get_or pieces k d)) pieces piece (are.apart k d l) (inr (overlaps-swap piece (get_or pieces k d) (free k d l))) in
+    λ k d l. All-push (SameOrApart (get_or pieces k d)) pieces piece (are.apart k d l)
+    (inr (overlaps-swap piece (get_or pieces k d) (free k d l))) in
     record {
       each = All-push (IsPiece signal) pieces piece are.each is;
       apart = All-push (λ a. All (SameOrApart a) (pieces ++ piece ∷ [])) pieces piece from_others from_piece;
     }
 
-and_piece-are : (signal : Signal) (pieces : List Piece) (piece : Option Piece) → ArePieces signal pieces → IfSome piece (IsPiece signal) → ArePieces signal (and_piece pieces piece)
+and_piece-are : (signal : Signal) (pieces : List Piece) (piece : Option Piece) → ArePieces signal pieces →
+    IfSome piece (IsPiece signal) → ArePieces signal (and_piece pieces piece)
 and_piece-are signal pieces None are is = are
 and_piece-are signal pieces (Some piece) are is = elim (cases_Bool (list_any (overlaps piece) pieces)) [
   | inl e ↦ rw e are
   | inr e ↦ rw e (add-piece signal pieces piece are is e)
 ]
 
-fold-are : (signal : Signal) (events : List Event) (pieces : List Piece) → 2 ≤ length signal.samples → ArePieces signal pieces → ArePieces signal (fold (and_piece_of signal) pieces events)
+fold-are : (signal : Signal) (events : List Event) (pieces : List Piece) → 2 ≤ length signal.samples →
+    ArePieces signal pieces → ArePieces signal (fold (and_piece_of signal) pieces events)
 fold-are signal [] pieces enough are = are
 fold-are signal (event ∷ events) pieces enough are =
-    fold-are signal events (and_piece_of signal pieces event) enough (and_piece-are signal pieces (piece_of signal event) are (piece_of-is signal event enough))
+    fold-are signal events (and_piece_of signal pieces event) enough
+    (and_piece-are signal pieces (piece_of signal event) are (piece_of-is signal event enough))
 
-pub pieces_of-are : (signal : Signal) (events : List Event) → 2 ≤ length signal.samples → ArePieces signal (pieces_of signal events)
+pub pieces_of-are : (signal : Signal) (events : List Event) → 2 ≤ length signal.samples →
+    ArePieces signal (pieces_of signal events)
 pieces_of-are signal events enough =
-    fold-are signal events [] enough (record { each = All-nil (IsPiece signal); apart = All-nil (λ a. All (SameOrApart a) []) })
+    fold-are signal events [] enough (record {
+      each = All-nil (IsPiece signal);
+      apart = All-nil
+          (λ a. All (SameOrApart a) []);
+    })

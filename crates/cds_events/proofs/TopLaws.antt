@@ -5,7 +5,7 @@ use Rattle.std.proofs.lemmas.Bool.{cases_lt}
 use Rattle.std.proofs.lemmas.Int.{ints}
 use Rattle.cds_trace.specs.Signal.{Signal, sample_at}
 use Rattle.cds_trace.specs.Extremes.{first_greatest, first_least}
-use Rattle.cds_events.specs.Standing.{IsCrest}
+use Rattle.cds_trace.specs.Standing.{IsCrest}
 use Rattle.cds_events.proofs.FirstLaws.{IsOrder, IsFirstBest, first-best, first-best_is}
 
 le_true : (x y : ℤ) → x ≤ℤ y → int_le x y ≡ true
@@ -59,10 +59,12 @@ first_greatest-is signal from to i top = first-best_is (not_above signal) from t
   before = λ k l m. le_false (sample_at signal i) (sample_at signal k) (top.before k l m);
 })
 
-pub first_greatest-top : (signal : Signal) (from to : ℕ) → from ≤ to → IsTop signal from to (first_greatest signal from to)
+pub first_greatest-top : (signal : Signal) (from to : ℕ) → from ≤ to →
+    IsTop signal from to (first_greatest signal from to)
 first_greatest-top signal from to l =
     let top : ℕ = first_greatest signal from to in
-    let found : IsFirstBest (not_above signal) from to top = first-best (not_above signal) (greatest_order signal) from to l in
+    let found : IsFirstBest (not_above signal) from to top =
+    first-best (not_above signal) (greatest_order signal) from to l in
     record {
       low = found.low;
       high = found.high;
@@ -71,7 +73,9 @@ first_greatest-top signal from to l =
     }
 
 -- a sample of a range that is less than all before it and not greater than any
-pub first_least-is : (signal : Signal) (from to i : ℕ) → from ≤ i → i ≤ to → ((k : ℕ) → from ≤ k → k < i → sample_at signal i <ℤ sample_at signal k) → ((k : ℕ) → from ≤ k → k ≤ to → sample_at signal i ≤ℤ sample_at signal k) → first_least signal from to ≡ i
+pub first_least-is : (signal : Signal) (from to i : ℕ) → from ≤ i → i ≤ to →
+    ((k : ℕ) → from ≤ k → k < i → sample_at signal i <ℤ sample_at signal k) →
+    ((k : ℕ) → from ≤ k → k ≤ to → sample_at signal i ≤ℤ sample_at signal k) → first_least signal from to ≡ i
 first_least-is signal from to i low high before most = first-best_is (not_below signal) from to i (record {
   low = low;
   high = high;
@@ -79,9 +83,11 @@ first_least-is signal from to i low high before most = first-best_is (not_below 
   before = λ k l m. le_false (sample_at signal k) (sample_at signal i) (before k l m);
 })
 
-pub first_least-within : (signal : Signal) (from to : ℕ) → from ≤ to → (from ≤ first_least signal from to) × (first_least signal from to ≤ to)
+pub first_least-within : (signal : Signal) (from to : ℕ) → from ≤ to →
+    (from ≤ first_least signal from to) × (first_least signal from to ≤ to)
 first_least-within signal from to l =
-    let found : IsFirstBest (not_below signal) from to (first_least signal from to) = first-best (not_below signal) (least_order signal) from to l in
+    let found : IsFirstBest (not_below signal) from to (first_least signal from to) =
+    first-best (not_below signal) (least_order signal) from to l in
     (found.low, found.high)
 
 -- the first greatest sample of a range is a crest where it lies strictly inside
@@ -104,7 +110,8 @@ split : (k mid : ℕ) → (k ≤ mid) ⊎ (mid ≤ k)
 split k mid = elim (cases_lt mid k) [ inl l ↦ inr (omega arith) | inr l ↦ inl l ]
 
 -- of two ranges that meet, the later one has the top of both where its own is higher
-pub top-later : (signal : Signal) (from mid to a b : ℕ) → IsTop signal from mid a → IsTop signal mid to b → sample_at signal a <ℤ sample_at signal b → IsTop signal from to b
+pub top-later : (signal : Signal) (from mid to a b : ℕ) → IsTop signal from mid a → IsTop signal mid to b →
+    sample_at signal a <ℤ sample_at signal b → IsTop signal from to b
 top-later signal from mid to a b first second higher =
     let y : ℕ → ℤ = sample_at signal in
     record {
@@ -121,7 +128,8 @@ top-later signal from mid to a b first second higher =
     }
 
 -- and else the earlier one
-pub top-earlier : (signal : Signal) (from mid to a b : ℕ) → IsTop signal from mid a → IsTop signal mid to b → sample_at signal b ≤ℤ sample_at signal a → IsTop signal from to a
+pub top-earlier : (signal : Signal) (from mid to a b : ℕ) → IsTop signal from mid a → IsTop signal mid to b →
+    sample_at signal b ≤ℤ sample_at signal a → IsTop signal from to a
 top-earlier signal from mid to a b first second lower =
     let y : ℕ → ℤ = sample_at signal in
     record {

@@ -3,11 +3,11 @@ use Rattle.std.specs.Prelude.{ℕ, ◌*◌, Bool, false, List, [], ◌∷◌, ma
 use Rattle.std.specs.List.{fold}
 use Rattle.cds_base.specs.declared.event.Event.{Event}
 use Rattle.cds_base.specs.declared.peak.RawPeak.{RawPeak}
-use Rattle.cds_base.specs.declared.cluster.Boundary.TheVariants.{Start}
+use Rattle.cds_base.specs.declared.cluster.Cut.TheVariants.{Start}
 use Rattle.cds_base.specs.declared.cluster.Cluster.{Cluster}
-use Rattle.cds_rules.specs.declared.method.Method.{Method}
+use Rattle.cds_rules.specs.Fields.{Fields}
 use Rattle.cds_trace.specs.Signal.{Signal}
-use Rattle.cds_events.specs.declared.placed.Placed.{Placed}
+use Rattle.cds_events.specs.Placed.{Placed}
 use Rattle.cds_events.specs.Pieces.{pieces_of}
 use Rattle.cds_events.specs.Placed.{placed_peaks}
 use Rattle.cds_events.specs.Runs.{fused, runs_of}
@@ -15,8 +15,8 @@ use Rattle.cds_events.specs.Parts.{parts_from}
 use Rattle.cds_events.specs.Drops.{drop_samples, cut_all}
 
 -- the most samples between two peaks that are fused: so many bunches as the method states
-abbrev pub gap_of : Method → ℕ
-gap_of method = method.fuse * method.bunch
+abbrev pub gap_of : Fields → ℕ
+gap_of fields = fields.fuse * fields.bunch
 
 -- where a run starts, as its first peak does
 abbrev pub start_of : List Placed → ℕ

@@ -1,9 +1,10 @@
 -- Drop lines, which cut parts. This project's own rule.
-use Rattle.std.specs.Prelude.{ℕ, ◌&&◌, ◌==◌, Bool, true, false, not, List, [], ◌∷◌, Option, Some, None, nat_lt, if◌then◌else◌}
+use Rattle.std.specs.Prelude.{ℕ, ◌&&◌, ◌==◌, Bool, true, false, not, List, [], ◌∷◌, Option, Some, None, nat_lt}
+use Rattle.std.specs.Prelude.{if◌then◌else◌}
 use Rattle.std.specs.List.{fold, filter_map, flat_map, count_by}
 use Rattle.cds_base.specs.declared.event.Event.{Event}
 use Rattle.cds_base.specs.declared.event.Event.TheVariants as event
-use Rattle.cds_base.specs.declared.cluster.Boundary.TheVariants as boundary
+use Rattle.cds_base.specs.declared.cluster.Cut.TheVariants as boundary
 use Rattle.cds_base.specs.declared.cluster.Part.{Part}
 use Rattle.cds_trace.specs.Signal.{Signal}
 use Rattle.cds_trace.specs.Extremes.{first_greatest}

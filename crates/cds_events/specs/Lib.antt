@@ -6,4 +6,4 @@ pub mod Drops
 pub mod Segments
 pub mod Arrangement
 pub mod Standing
-pub mod Row
+pub mod Ordered

@@ -1,14 +1,20 @@
 -- Forced baselines: the pieces of a trace over which an event forces one straight baseline. This project's own rule.
-use Rattle.std.specs.Prelude.{ℕ, ◌*◌, ◌/◌, ◌-◌, ◌&&◌, Bool, List, [], ◌∷◌, ◌++◌, Option, Some, None, length, min, nat_lt, if◌then◌else◌}
+use Rattle.std.specs.Prelude.{ℕ, ◌*◌, ◌/◌, ◌-◌, ◌&&◌, Bool, List, [], ◌∷◌, ◌++◌, Option, Some, None, length, min}
+use Rattle.std.specs.Prelude.{nat_lt, if◌then◌else◌}
 use Rattle.std.specs.List.{fold, list_any}
+use Rattle.cds_base.specs.declared.time.TheConstants.{MILLISECOND_US}
 use Rattle.cds_base.specs.declared.event.Event.{Event}
 use Rattle.cds_base.specs.declared.event.Event.TheVariants.{Inhibit, Valley, Drop, Baseline, Slope, Skim}
 use Rattle.cds_trace.specs.Signal.{Signal}
-use Rattle.cds_events.specs.declared.pieces.Piece.{Piece}
+
+-- a piece of the trace: the samples at its two ends
+pub record Piece : Type 0 where
+  pub start : ℕ
+  pub end : ℕ
 
 -- the last sample that doesn't lie behind a time, which is in milliseconds; the period is in microseconds
 abbrev pub sample_of_time : ℕ → ℕ → ℕ
-sample_of_time period ms = 1000 * ms / period
+sample_of_time period ms = MILLISECOND_US * ms / period
 
 -- the piece from one time to another, or to the trace's last sample; none where that doesn't lie behind its start
 abbrev pub piece_between : Signal → ℕ → ℕ → Option Piece
@@ -39,6 +45,7 @@ and_piece earlier (Some piece) = if list_any (overlaps piece) earlier then earli
 abbrev pub and_piece_of : Signal → List Piece → Event → List Piece
 and_piece_of signal earlier event = and_piece earlier (piece_of signal event)
 
--- the forced pieces with effect, in the order of their events: each that shares at most an end with each earlier one that has effect
+-- the forced pieces with effect, in the order of their events: each that shares at most an end with each earlier one
+-- that has effect
 abbrev pub pieces_of : Signal → List Event → List Piece
 pieces_of signal events = fold (and_piece_of signal) [] events

@@ -1,5 +1,6 @@
 -- The segments of a part between drop lines, in which the first greatest sample is known. For private functions alone.
-use Rattle.std.specs.Prelude.{◌≡◌, ℕ, ◌<◌, ◌≤◌, ◌⊎◌, ◌&&◌, Bool, List, [], ◌∷◌, All, nat_le, int_lt, Option, Some, None, if◌then◌else◌}
+use Rattle.std.specs.Prelude.{◌≡◌, ℕ, ◌<◌, ◌≤◌, ◌⊎◌, ◌&&◌, Bool, List, [], ◌∷◌, All, nat_le, int_lt, Option, Some, None}
+use Rattle.std.specs.Prelude.{if◌then◌else◌}
 use Rattle.std.specs.List.{fold, flat_map}
 use Rattle.cds_base.specs.declared.cluster.Part.{Part}
 use Rattle.cds_trace.specs.Signal.{Signal, sample_at}
@@ -16,7 +17,8 @@ pub record IsSegment (signal : Signal) (segment : Segment) : Type 0 where
 -- segments cover a range: each begins where the one before ends
 abbrev pub Covers : Signal → ℕ → List Segment → ℕ → Type 0
 Covers signal start [] end = start ≡ end
-Covers signal start (segment ∷ segments) end = (segment.from ≡ start) × IsSegment signal segment × Covers signal segment.to segments end
+Covers signal start (segment ∷ segments) end =
+    (segment.from ≡ start) × IsSegment signal segment × Covers signal segment.to segments end
 
 -- a sample that doesn't lie strictly inside a range
 abbrev pub IsOutside : ℕ → ℕ → ℕ → Type 0

@@ -1,33 +1,12 @@
--- How raw peaks, parts and clusters stand in a trace.
-use Rattle.std.specs.Prelude.{◌≡◌, ℕ, ◌+◌, ◌-◌, ◌<◌, ◌≤◌, ◌≤ℤ◌, ◌<ℤ◌, List, [], ◌∷◌, All, length}
+-- How parts and clusters stand in a trace.
+use Rattle.std.specs.Prelude.{◌≡◌, ℕ, ◌<◌, ◌≤◌, List, [], ◌∷◌, All, length}
 use Rattle.std.specs.List.{sum_by}
-use Rattle.cds_base.specs.declared.peak.RawPeak.{RawPeak}
-use Rattle.cds_base.specs.declared.cluster.Boundary.TheVariants.{Start}
+use Rattle.cds_base.specs.declared.cluster.Cut.TheVariants.{Start}
 use Rattle.cds_base.specs.declared.cluster.Part.{Part}
 use Rattle.cds_base.specs.declared.cluster.Cluster.{Cluster}
-use Rattle.cds_trace.specs.Signal.{Signal, sample_at}
-use Rattle.cds_trace.specs.Extremes.{first_greatest}
+use Rattle.cds_trace.specs.Signal.{Signal}
+use Rattle.cds_trace.specs.Standing.{IsCrest}
 use Rattle.cds_base.specs.Tiles.{Tiles}
-
--- a raw peak that begins at this sample or behind it
-pub record IsRaw (signal : Signal) (at : ℕ) (peak : RawPeak) : Type 0 where
-  pub follows : at ≤ peak.start
-  -- its apex lies strictly inside, and is the first greatest sample of its range
-  pub rises : peak.start < peak.apex
-  pub falls : peak.apex < peak.end
-  pub apex : peak.apex ≡ first_greatest signal peak.start peak.end
-  -- it ends within the trace
-  pub ends : peak.end < length signal.samples
-
--- raw peaks one after the other from this sample on; the end of one may be the start of the next
-abbrev pub RawFrom : Signal → ℕ → List RawPeak → Type 0
-RawFrom signal at [] = Unit {0}
-RawFrom signal at (peak ∷ peaks) = IsRaw signal at peak × RawFrom signal peak.end peaks
-
--- a sample that is above the one before it, and that the one behind it isn't above
-pub record IsCrest (signal : Signal) (apex : ℕ) : Type 0 where
-  pub rises : sample_at signal (apex - 1) <ℤ sample_at signal apex
-  pub falls : sample_at signal (apex + 1) ≤ℤ sample_at signal apex
 
 -- a part whose apex lies in its range, and is a crest where it lies strictly inside
 pub record IsPart (signal : Signal) (part : Part) : Type 0 where

@@ -1,4 +1,5 @@
-ghost use Rattle.std.specs.Prelude.{◌≡◌, length};
+//! The list of clusters that an arrangement gives.
+ghost use Rattle.std.specs.Prelude.{◌≡◌, length, option_copied, slice_get};
 
 use cds_base::Cluster;
 use std::marker::Model;
@@ -38,5 +39,12 @@ impl Clusters {
         ensures { result ≡ length self.now }
     {
         self.items.len()
+    }
+
+    /// The cluster at a place, counted from 0. None exactly where there are not so many.
+    pub fn get(&self, i: usize) -> Option<&Cluster>
+        ensures { option_copied result ≡ slice_get self.now i }
+    {
+        self.items.get(i)
     }
 }

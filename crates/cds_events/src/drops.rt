@@ -1,13 +1,14 @@
+//! Drop lines, which cut parts.
 ghost use Rattle.std.specs.Prelude.{◌≡◌, ◌+◌, ◌-◌, ◌*◌, ◌≤◌, ◌++◌, ◌∷◌, [], All, OnOk, IfOk};
 ghost use Rattle.std.specs.List.{sum_by, list_any};
 ghost use Rattle.cds_trace.specs.Signal.{IsTrace};
 ghost use Rattle.cds_events.specs.Drops.{drop_sample, drop_samples, crosses, is_cut, cut_by, front, back, cut_all};
 ghost use Rattle.cds_events.specs.Segments.{cut_each_by, top_within};
-ghost use Rattle.cds_events.specs.Row.{IsInside};
+ghost use Rattle.cds_events.specs.Ordered.{IsInside};
 
 use crate::pieces::sample_of_time;
 use crate::segments::{Segment, segments_between, top_within};
-use cds_base::{Boundary, Event, NoMemory, Part, Steps};
+use cds_base::{Cut, Event, NoMemory, Part, Steps};
 use cds_rules::Method;
 use cds_trace::Trace;
 use std::alloc::Global;
@@ -105,7 +106,7 @@ fn back(segments: &[Segment], at: u32, part: Part) -> Part
         start: at,
         apex,
         end: part.end,
-        left: Boundary::Drop,
+        left: Cut::Drop,
     }
 }
 
@@ -143,8 +144,8 @@ fn cut_each(
     Ok(pieces)
 }
 
-/// What the drop lines leave of one part, one line after the other. No step where none has the part on both of its
-/// sides, and else at most two for each of its samples but one, however many lines there are.
+/// What the drop lines leave of one part, one line after the other. At most two steps for each of its samples but one,
+/// however many lines there are.
 fn cut_part<L: Ledger>(
     alloc: Global,
     part: Part,
@@ -158,14 +159,36 @@ fn cut_part<L: Ledger>(
     ensures most { steps.new + 2 * part.start ≤ steps.old + 2 * part.end }
 {
     let mut pieces = Vec::from_slice(alloc, &[part])?;
-    if !is_crossed(part, drops) {
-        return Ok(pieces);
-    }
     let segments = segments_between(alloc, drops, part.start, part.end, trace, steps)?;
     for at in drops {
         pieces = cut_each(alloc, &segments, &pieces, *at)?;
     }
     Ok(pieces)
+}
+
+/// Puts what the drop lines leave of one part behind these pieces. No step where none has the part on both of its
+/// sides,
+/// and else at most two for each of its samples but one.
+fn add_pieces<L: Ledger>(
+    alloc: Global,
+    pieces: &mut Vec<Part>,
+    part: Part,
+    drops: &[u64],
+    trace: &Trace,
+    steps: &mut Steps<L>,
+) -> Result<(), NoMemory>
+    requires { IsInside trace.now part }
+    ensures value { OnOk result (pieces.new.items ≡ pieces.old.items ++ cut_all trace.now (part ∷ []) drops.now) }
+    ensures least { steps.old ≤ steps.new }
+    ensures most { steps.new + 2 * part.start ≤ steps.old + 2 * part.end }
+{
+    if !is_crossed(part, drops) {
+        pieces.push(part)?;
+        return Ok(());
+    }
+    let cut = cut_part(alloc, part, drops, trace, steps)?;
+    pieces.extend_from_slice(&cut)?;
+    Ok(())
 }
 
 /// What the drop lines leave of these parts, one line after the other. At most two steps for each sample of a part but
@@ -184,8 +207,7 @@ pub(crate) fn cut_parts<L: Ledger>(
 {
     let mut pieces = Vec::with_capacity(alloc, parts.len())?;
     for part in parts {
-        let cut = cut_part(alloc, *part, drops, trace, steps)?;
-        pieces.extend_from_slice(&cut)?;
+        add_pieces(alloc, &mut pieces, *part, drops, trace, steps)?;
     }
     Ok(pieces)
 }

@@ -1,20 +1,30 @@
+//! Forced baselines: the pieces of a trace over which an event forces one straight baseline.
 ghost use Rattle.std.specs.Prelude.{◌≡◌, ◌≤◌, ◌++◌, OnOk, IfOk};
 ghost use Rattle.std.specs.List.{fold, list_any};
-ghost use Rattle.cds_events.specs.Pieces.{sample_of_time, piece_between, piece_of, overlaps, and_piece, and_piece_of, pieces_of};
+ghost use Rattle.cds_events.specs.Pieces.{sample_of_time, piece_between, piece_of, overlaps, and_piece, and_piece_of};
+ghost use Rattle.cds_events.specs.Pieces.{pieces_of};
 
-use cds_base::{Event, NoMemory};
+use cds_base::{Event, MILLISECOND_US, NoMemory};
 use cds_rules::Method;
 use cds_trace::Trace;
 use std::alloc::Global;
+use std::marker::Model;
 
-/// The times of events are in milliseconds, periods in microseconds.
-const MICROSECONDS_PER_MILLISECOND: u64 = 1000;
-
-/// A piece of the trace with a forced baseline, from the sample `start` to the sample `end`.
+/// A piece of the trace with a forced baseline, from the sample `start` to the sample `end`. Seen as a plain record.
 #[derive(Clone, Copy, Debug)]
 pub(crate) struct Piece {
     pub start: u32,
     pub end: u32,
+}
+
+impl Model for Piece {
+    ghost use Rattle.cds_events.specs.Pieces.{Piece as Shown};
+
+    ghost Value = { Shown };
+
+    ghost view = { λ p. record { start = p.start; end = p.end } };
+
+    ghost inverse = { λ p. record { start = p.start; end = p.end } };
 }
 
 /// The last sample that doesn't lie behind a time in milliseconds. The period is in microseconds.
@@ -22,7 +32,7 @@ pub(crate) fn sample_of_time(period: u64, ms: u32) -> u64
     requires { 1 ≤ period }
     ensures { result ≡ sample_of_time period ms }
 {
-    MICROSECONDS_PER_MILLISECOND * u64::from(ms) / period
+    MILLISECOND_US * u64::from(ms) / period
 }
 
 /// The piece from one time in milliseconds to another, or to the last sample; None where that isn't behind its start.

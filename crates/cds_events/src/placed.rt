@@ -1,3 +1,4 @@
+//! Raw peaks where they stand among the forced pieces.
 ghost use Rattle.std.specs.Prelude.{◌≡◌, IfOk};
 ghost use Rattle.std.specs.List.{fold, find};
 ghost use Rattle.cds_events.specs.Placed.{belongs, trimmed, over_range, place, is_peak, placed_peaks};
@@ -5,9 +6,10 @@ ghost use Rattle.cds_events.specs.Placed.{belongs, trimmed, over_range, place, i
 use crate::pieces::Piece;
 use cds_base::{NoMemory, RawPeak};
 use std::alloc::Global;
+use std::marker::Model;
 
 /// A raw peak where it stands among the forced pieces: over the range of the piece that it belongs to, or over what
-/// they all leave of its own.
+/// they all leave of its own. Seen as a plain record.
 #[derive(Clone, Copy, Debug)]
 pub(crate) struct Placed {
     pub start: u32,
@@ -15,6 +17,16 @@ pub(crate) struct Placed {
     pub end: u32,
     /// Whether it belongs to a forced piece.
     pub forced: bool,
+}
+
+impl Model for Placed {
+    ghost use Rattle.cds_events.specs.Placed.{Placed as Shown};
+
+    ghost Value = { Shown };
+
+    ghost view = { λ p. record { start = p.start; apex = p.apex; end = p.end; forced = p.forced } };
+
+    ghost inverse = { λ p. record { start = p.start; apex = p.apex; end = p.end; forced = p.forced } };
 }
 
 /// Whether a raw peak belongs to a forced piece.

@@ -1,3 +1,4 @@
+//! Which neighbours are fused.
 ghost use Rattle.std.specs.Prelude.{◌≡◌, ◌<◌, ◌≤◌, length};
 ghost use Rattle.std.specs.List.{list_any};
 ghost use Rattle.cds_events.specs.Runs.{lies_between, fused, run_length};

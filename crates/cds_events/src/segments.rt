@@ -1,13 +1,16 @@
+//! The segments of a part between drop lines, each read once.
 ghost use Rattle.std.specs.Prelude.{◌≡◌, ◌+◌, ◌*◌, ◌<◌, ◌≤◌, All, IfOk, None, length};
 ghost use Rattle.std.specs.List.{fold};
-ghost use Rattle.cds_events.specs.Segments.{IsSegment, Covers, IsOutside, IsMark, higher, is_within, best_with, top_within};
+ghost use Rattle.cds_events.specs.Segments.{IsSegment, Covers, IsOutside, IsMark, higher, is_within, best_with};
+ghost use Rattle.cds_events.specs.Segments.{top_within};
 
 use cds_base::{NoMemory, Steps};
 use cds_trace::Trace;
 use std::alloc::Global;
 use std::sync::ledger::Ledger;
 
-/// A segment of the trace, from the sample `from` to the sample `to`, with its first greatest sample and the level there.
+/// A segment of the trace, from the sample `from` to the sample `to`, with its first greatest sample and the level
+/// there.
 #[derive(Clone, Copy, Debug)]
 pub(crate) struct Segment {
     pub from: u32,

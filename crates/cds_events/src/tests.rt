@@ -1,9 +1,9 @@
 ghost use Rattle.std.specs.Prelude.{◌≡◌, ◌<◌, IsTrue};
-ghost use Rattle.cds_events.specs.Standing.{IsRaw, RawFrom};
+ghost use Rattle.cds_trace.specs.Standing.{IsRawPeak, RawFrom};
 
 use super::*;
 use crate::segments::segment_between;
-use cds_base::{Boundary, Event, Part, RawPeak, Steps};
+use cds_base::{Cut, Event, Part, RawPeak, Steps};
 use cds_rules::Method;
 use cds_trace::Trace;
 use std::alloc::Global;
@@ -51,7 +51,7 @@ const BUMP_RAW: &[RawPeak] = &[RawPeak {
 const GAPS: &[i32] = &[0, 0, 10, 60, 10, 0, 0, 0, 10, 60, 10, 0];
 
 /// A part that is wanted: its start, its apex, its end and its left end.
-type WantedPart = (u32, u32, u32, Boundary);
+type WantedPart = (u32, u32, u32, Cut);
 
 /// A cluster that is wanted: its start, its end, whether it is forced, and its parts.
 type Wanted = (u32, u32, bool, &'static [WantedPart]);
@@ -72,7 +72,7 @@ const ROWS: [Row; 24] = [
         ONE,
         ONE_RAW,
         &[],
-        &[(1, 8, false, &[(1, 5, 8, Boundary::Start)])],
+        &[(1, 8, false, &[(1, 5, 8, Cut::Start)])],
     ),
     (
         "two fused peaks",
@@ -83,7 +83,7 @@ const ROWS: [Row; 24] = [
             1,
             12,
             false,
-            &[(1, 5, 7, Boundary::Start), (7, 9, 12, Boundary::Valley)],
+            &[(1, 5, 7, Cut::Start), (7, 9, 12, Cut::Valley)],
         )],
     ),
     (
@@ -95,7 +95,7 @@ const ROWS: [Row; 24] = [
             1,
             12,
             false,
-            &[(1, 5, 7, Boundary::Start), (7, 9, 12, Boundary::Valley)],
+            &[(1, 5, 7, Cut::Start), (7, 9, 12, Cut::Valley)],
         )],
     ),
     (
@@ -107,7 +107,7 @@ const ROWS: [Row; 24] = [
             1,
             12,
             false,
-            &[(1, 5, 7, Boundary::Start), (7, 9, 12, Boundary::Valley)],
+            &[(1, 5, 7, Cut::Start), (7, 9, 12, Cut::Valley)],
         )],
     ),
     ("no raw peak", &[7, 7], &[], &[], &[]),
@@ -120,7 +120,7 @@ const ROWS: [Row; 24] = [
             end: 11,
         }],
         &[],
-        &[(6, 11, false, &[(6, 9, 11, Boundary::Start)])],
+        &[(6, 11, false, &[(6, 9, 11, Cut::Start)])],
     ),
     (
         "a peak that ends with the trace",
@@ -131,7 +131,7 @@ const ROWS: [Row; 24] = [
             end: 8,
         }],
         &[],
-        &[(1, 8, false, &[(1, 5, 8, Boundary::Start)])],
+        &[(1, 8, false, &[(1, 5, 8, Cut::Start)])],
     ),
     (
         "two samples between peaks",
@@ -153,7 +153,7 @@ const ROWS: [Row; 24] = [
             1,
             11,
             false,
-            &[(1, 3, 5, Boundary::Start), (5, 9, 11, Boundary::Valley)],
+            &[(1, 3, 5, Cut::Start), (5, 9, 11, Cut::Valley)],
         )],
     ),
     (
@@ -173,8 +173,8 @@ const ROWS: [Row; 24] = [
         ],
         &[],
         &[
-            (1, 5, false, &[(1, 3, 5, Boundary::Start)]),
-            (8, 11, false, &[(8, 9, 11, Boundary::Start)]),
+            (1, 5, false, &[(1, 3, 5, Cut::Start)]),
+            (8, 11, false, &[(8, 9, 11, Cut::Start)]),
         ],
     ),
     (
@@ -182,24 +182,14 @@ const ROWS: [Row; 24] = [
         ONE,
         ONE_RAW,
         &[Event::Drop { at: 6000 }],
-        &[(
-            1,
-            8,
-            false,
-            &[(1, 5, 6, Boundary::Start), (6, 6, 8, Boundary::Drop)],
-        )],
+        &[(1, 8, false, &[(1, 5, 6, Cut::Start), (6, 6, 8, Cut::Drop)])],
     ),
     (
         "a drop between two samples, and the same again",
         ONE,
         ONE_RAW,
         &[Event::Drop { at: 6999 }, Event::Drop { at: 6000 }],
-        &[(
-            1,
-            8,
-            false,
-            &[(1, 5, 6, Boundary::Start), (6, 6, 8, Boundary::Drop)],
-        )],
+        &[(1, 8, false, &[(1, 5, 6, Cut::Start), (6, 6, 8, Cut::Drop)])],
     ),
     (
         "drops on the apex and on both ends",
@@ -210,31 +200,21 @@ const ROWS: [Row; 24] = [
             Event::Drop { at: 1000 },
             Event::Drop { at: 8000 },
         ],
-        &[(1, 8, false, &[(1, 5, 8, Boundary::Start)])],
+        &[(1, 8, false, &[(1, 5, 8, Cut::Start)])],
     ),
     (
         "a drop before the apex",
         BUMP,
         BUMP_RAW,
         &[Event::Drop { at: 2000 }],
-        &[(
-            1,
-            7,
-            false,
-            &[(1, 2, 2, Boundary::Start), (2, 3, 7, Boundary::Drop)],
-        )],
+        &[(1, 7, false, &[(1, 2, 2, Cut::Start), (2, 3, 7, Cut::Drop)])],
     ),
     (
         "a drop on the apex of a piece",
         BUMP,
         BUMP_RAW,
         &[Event::Drop { at: 4000 }, Event::Drop { at: 5000 }],
-        &[(
-            1,
-            7,
-            false,
-            &[(1, 3, 4, Boundary::Start), (4, 5, 7, Boundary::Drop)],
-        )],
+        &[(1, 7, false, &[(1, 3, 4, Cut::Start), (4, 5, 7, Cut::Drop)])],
     ),
     (
         "the same drops in the other order",
@@ -246,9 +226,9 @@ const ROWS: [Row; 24] = [
             7,
             false,
             &[
-                (1, 3, 4, Boundary::Start),
-                (4, 5, 5, Boundary::Drop),
-                (5, 5, 7, Boundary::Drop),
+                (1, 3, 4, Cut::Start),
+                (4, 5, 5, Cut::Drop),
+                (5, 5, 7, Cut::Drop),
             ],
         )],
     ),
@@ -260,7 +240,7 @@ const ROWS: [Row; 24] = [
             from: 2000,
             to: 7000,
         }],
-        &[(2, 7, true, &[(2, 5, 7, Boundary::Start)])],
+        &[(2, 7, true, &[(2, 5, 7, Cut::Start)])],
     ),
     (
         "a second piece that overlaps the first",
@@ -276,7 +256,7 @@ const ROWS: [Row; 24] = [
                 to: 9000,
             },
         ],
-        &[(2, 7, true, &[(2, 5, 7, Boundary::Start)])],
+        &[(2, 7, true, &[(2, 5, 7, Cut::Start)])],
     ),
     (
         "a second piece that shares an end",
@@ -292,7 +272,7 @@ const ROWS: [Row; 24] = [
                 to: 9000,
             },
         ],
-        &[(2, 7, true, &[(2, 5, 7, Boundary::Start)])],
+        &[(2, 7, true, &[(2, 5, 7, Cut::Start)])],
     ),
     (
         "a forced piece that starts on the apex",
@@ -312,7 +292,7 @@ const ROWS: [Row; 24] = [
             from: 3000,
             to: 3999,
         }],
-        &[(1, 8, false, &[(1, 5, 8, Boundary::Start)])],
+        &[(1, 8, false, &[(1, 5, 8, Cut::Start)])],
     ),
     (
         "a start that is raised to the end of a second piece",
@@ -329,8 +309,8 @@ const ROWS: [Row; 24] = [
             },
         ],
         &[
-            (2, 6, true, &[(2, 5, 6, Boundary::Start)]),
-            (8, 12, false, &[(8, 9, 12, Boundary::Start)]),
+            (2, 6, true, &[(2, 5, 6, Cut::Start)]),
+            (8, 12, false, &[(8, 9, 12, Cut::Start)]),
         ],
     ),
     (
@@ -348,8 +328,8 @@ const ROWS: [Row; 24] = [
             },
         ],
         &[
-            (2, 6, true, &[(2, 5, 6, Boundary::Start)]),
-            (7, 12, false, &[(7, 9, 12, Boundary::Start)]),
+            (2, 6, true, &[(2, 5, 6, Cut::Start)]),
+            (7, 12, false, &[(7, 9, 12, Cut::Start)]),
         ],
     ),
     (
@@ -361,8 +341,8 @@ const ROWS: [Row; 24] = [
             to: 7000,
         }],
         &[
-            (1, 6, false, &[(1, 5, 6, Boundary::Start)]),
-            (7, 12, false, &[(7, 9, 12, Boundary::Start)]),
+            (1, 6, false, &[(1, 5, 6, Cut::Start)]),
+            (7, 12, false, &[(7, 9, 12, Cut::Start)]),
         ],
     ),
     (
@@ -378,9 +358,9 @@ const ROWS: [Row; 24] = [
             14,
             true,
             &[
-                (0, 3, 3, Boundary::Start),
-                (3, 5, 7, Boundary::Drop),
-                (7, 9, 14, Boundary::Valley),
+                (0, 3, 3, Cut::Start),
+                (3, 5, 7, Cut::Drop),
+                (7, 9, 14, Cut::Valley),
             ],
         )],
     ),
@@ -388,7 +368,7 @@ const ROWS: [Row; 24] = [
 
 // Whether a raw peak begins at this sample or behind it, and its apex is the first greatest sample, strictly inside.
 fn stands<L: Ledger>(trace: &Trace, at: u32, peak: RawPeak, steps: &mut Steps<L>) -> bool
-    ensures { IsTrue result → IsRaw trace.now at peak }
+    ensures { IsTrue result → IsRawPeak trace.now at peak }
 {
     if at > peak.start
         || peak.start >= peak.apex

@@ -1,12 +1,13 @@
+//! The parts of a run of fused peaks, cut at the valleys.
 ghost use Rattle.std.specs.Prelude.{◌≡◌, ◌+◌, ◌<◌, ◌≤◌, IfOk, length};
-ghost use Rattle.cds_base.specs.declared.cluster.Boundary.TheVariants.{Start};
+ghost use Rattle.cds_base.specs.declared.cluster.Cut.TheVariants.{Start};
 ghost use Rattle.cds_trace.specs.Extremes.{first_least};
 ghost use Rattle.cds_events.specs.Parts.{part_end, parts_from};
 ghost use Rattle.cds_events.specs.Arrangement.{start_of, end_of};
-ghost use Rattle.cds_events.specs.Row.{IsAhead, Row, next_apex};
+ghost use Rattle.cds_events.specs.Ordered.{IsAhead, AreOrdered, next_apex};
 
 use crate::placed::Placed;
-use cds_base::{Boundary, NoMemory, Part, Steps};
+use cds_base::{Cut, NoMemory, Part, Steps};
 use cds_trace::Trace;
 use std::alloc::Global;
 use std::sync::ledger::Ledger;
@@ -39,7 +40,7 @@ fn first_least<L: Ledger>(trace: &Trace, from: u32, to: u32, steps: &mut Steps<L
 fn part_end<L: Ledger>(trace: &Trace, peak: Placed, later: &[Placed], steps: &mut Steps<L>) -> u32
     requires falls { peak.apex < peak.end }
     requires ahead { IsAhead peak later.now }
-    requires row { Row trace.now later.now }
+    requires ordered { AreOrdered trace.now later.now }
     ensures value { result ≡ part_end trace.now peak later.now }
     ensures least { steps.old ≤ steps.new }
     ensures most { steps.new + peak.apex ≤ steps.old + next_apex peak.apex later.now }
@@ -58,14 +59,15 @@ pub(crate) fn parts_of_run<L: Ledger>(
     steps: &mut Steps<L>,
 ) -> Result<Vec<Part>, NoMemory>
     requires some { 0 < length run.now }
-    requires row { Row trace.now run.now }
+    requires ordered { AreOrdered trace.now run.now }
     ensures value { IfOk result (λ v. v.items ≡ parts_from trace.now (start_of run.now) Start run.now) }
     ensures least { steps.old ≤ steps.new }
     ensures most { steps.new + start_of run.now ≤ steps.old + end_of run.now }
 {
     let mut parts = Vec::with_capacity(alloc, run.len())?;
-    let mut start = run[0].start;
-    let mut left = Boundary::Start;
+    let first = &run[0];
+    let mut start = first.start;
+    let mut left = Cut::Start;
     let mut rest = run;
     while let [peak, later @ ..] = rest {
         let end = part_end(trace, *peak, later, steps);
@@ -76,7 +78,7 @@ pub(crate) fn parts_of_run<L: Ledger>(
             left,
         })?;
         start = end;
-        left = Boundary::Valley;
+        left = Cut::Valley;
         rest = later;
     }
     Ok(parts)

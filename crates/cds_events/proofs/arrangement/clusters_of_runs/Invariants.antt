@@ -1,7 +1,7 @@
 use Rattle.std.proofs.Common.{◌≡◌, ◌+◌, ◌*◌, ◌≤◌, ◌++◌, length, map}
 use Rattle.cds_events.specs.Runs.{fused, runs_of}
 use Rattle.cds_events.specs.Arrangement.{cluster_of}
-use Rattle.cds_events.specs.Row.{RunsFrom, reached}
+use Rattle.cds_events.specs.Ordered.{RunsFrom, reached}
 use Rattle.cds_events.proofs.arrangement.clusters_of_runs.Given as goal
 
 abbrev pub invariant-loop-rest : goal.invariant-loop-rest

@@ -6,12 +6,8 @@ use Rattle.cds_events.specs.declared.segments.Segment.{Segment}
 use Rattle.cds_events.specs.Drops.{cut_all, cut_each}
 use Rattle.cds_events.specs.Segments.{cut_each_by, IsMark}
 use Rattle.cds_events.proofs.SegmentLaws.{mark-low, mark-high}
-use Rattle.cds_events.proofs.CutLaws.{IsMarked, cut_all-whole, cut_each_by-signal, cut_each_by-marked}
+use Rattle.cds_events.proofs.CutLaws.{IsMarked, cut_each_by-signal, cut_each_by-marked}
 use Rattle.cds_events.proofs.drops.cut_part.Goals as goal
-
-pub returns-then-not-is_crossed-clause-value : goal.returns-then-not-is_crossed-clause-value
-returns-then-not-is_crossed-clause-value g c =
-    c.in_ok-pieces.ensures.items ∙ sym (cut_all-whole c.args.trace.now c.args.part c.args.drops.now (sym c.is_crossed.ensures ∙ c.if-not-is_crossed.true))
 
 pub loop-at-init : goal.loop-at-init
 loop-at-init g c =
@@ -42,10 +38,12 @@ loop-at-preserved g c =
     let kept = c.loop-at.invariant in
     let covers = c.in_ok-segments.ensures.covers in
     let mark : IsMark segments at = c.in_ok-segments.ensures.marks i 0 c.loop-at-test.true in
-    let made : c.in_ok-pieces-2.pieces.items ≡ cut_each_by segments before at = rw (c.deref.ensures.value, c.deref-in-loop-at.ensures.value) at c.in_ok-pieces-2.ensures in
+    let made : c.in_ok-pieces-2.pieces.items ≡ cut_each_by segments before at =
+    rw (c.deref.ensures.value, c.deref-in-loop-at.ensures.value) at c.in_ok-pieces-2.ensures in
     let same : cut_each_by segments before at ≡ cut_each c.args.trace.now before at =
     cut_each_by-signal c.args.trace.now segments part.start part.end before at covers kept.marked mark in
-    let step : cut_all c.args.trace.now (part ∷ []) (take (i + 1) drops) ≡ cut_each c.args.trace.now (cut_all c.args.trace.now (part ∷ []) (take i drops)) at =
+    let step : cut_all c.args.trace.now (part ∷ []) (take (i + 1) drops) ≡ cut_each c.args.trace.now
+    (cut_all c.args.trace.now (part ∷ []) (take i drops)) at =
     fold_more (cut_each c.args.trace.now) (part ∷ []) drops i 0 c.loop-at-test.true in
     record {
       value = made ∙ same ∙ ap (λ pieces. cut_each c.args.trace.now pieces at) kept.value ∙ sym step;

@@ -7,7 +7,8 @@ abbrev pub invariant-loop-count : goal.invariant-loop-count
 invariant-loop-count l = record {
   some : 1 ≤ l.count;
   within : l.count ≤ length l.peaks;
-  value : l.count + fused_after (fused l.gap l.pieces) (peak_at l.peaks (l.count - 1)) (drop l.count l.peaks) ≡ run_length (fused l.gap l.pieces) l.peaks;
+  value : l.count + fused_after (fused l.gap l.pieces) (peak_at l.peaks (l.count - 1))
+      (drop l.count l.peaks) ≡ run_length (fused l.gap l.pieces) l.peaks;
 }
 
 abbrev pub decreases-loop-count : goal.decreases-loop-count

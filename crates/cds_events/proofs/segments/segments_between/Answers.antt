@@ -14,14 +14,17 @@ loop-from-preserved g c =
     let before : List Segment = c.loop-from.segments.items in
     let items : c.push.new.self.items ≡ before ++ segment ∷ [] = c.in_ok-push.ensures.items in
     let covers : Covers c.args.trace.now c.args.start before segment.from = rw told.from kept.covers in
-    let longer : Covers c.args.trace.now c.args.start (before ++ segment ∷ []) segment.to = Covers-push c.args.trace.now c.args.start before segment covers told.value in
+    let longer : Covers c.args.trace.now c.args.start (before ++ segment ∷ []) segment.to =
+    Covers-push c.args.trace.now c.args.start before segment covers told.value in
     record {
       within = c.next_line-to.ensures.before;
       covers = rw (items, ← told.to) longer;
       marks = λ k d l.
           let at : ℕ = get_or c.args.drops.now k d in
-          let clear : IsOutside segment.from segment.to at = rw (told.from, told.to) (c.next_line-to.ensures.clear k d l) in
-          let all : All (λ s. IsOutside s.from s.to at) (before ++ segment ∷ []) = All-push (λ s. IsOutside s.from s.to at) before segment (kept.marks k d l) clear in
+          let clear : IsOutside segment.from segment.to at =
+          rw (told.from, told.to) (c.next_line-to.ensures.clear k d l) in
+          let all : All (λ s. IsOutside s.from s.to at) (before ++ segment ∷ []) =
+          All-push (λ s. IsOutside s.from s.to at) before segment (kept.marks k d l) clear in
           rw items all;
       least = omega (arith, kept.least, told.counted);
       most = omega (arith, kept.most, told.counted, told.from, c.next_line-to.ensures.behind);

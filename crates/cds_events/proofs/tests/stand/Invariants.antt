@@ -1,5 +1,5 @@
 use Rattle.std.proofs.Common.{drop}
-use Rattle.cds_events.specs.Standing.{RawFrom}
+use Rattle.cds_trace.specs.Standing.{RawFrom}
 use Rattle.cds_events.proofs.tests.stand.Given as goal
 
 abbrev pub invariant-loop-peak : goal.invariant-loop-peak

@@ -1,12 +1,12 @@
--- How placed peaks and their runs stand in a trace. For private functions alone.
+-- Placed peaks in their order, and how they and their runs stand in a trace. For private functions alone.
 use Rattle.std.specs.Prelude.{ℕ, ◌+◌, ◌<◌, ◌≤◌, List, [], ◌∷◌, length}
 use Rattle.std.specs.List.{fold}
 use Rattle.cds_base.specs.declared.cluster.Part.{Part}
 use Rattle.cds_base.specs.declared.cluster.Cluster.{Cluster}
 use Rattle.cds_trace.specs.Signal.{Signal}
-use Rattle.cds_events.specs.declared.placed.Placed.{Placed}
+use Rattle.cds_events.specs.Placed.{Placed}
 use Rattle.cds_events.specs.Arrangement.{start_of, end_of}
-use Rattle.cds_events.specs.Standing.{IsCrest}
+use Rattle.cds_trace.specs.Standing.{IsCrest}
 
 -- a peak whose apex lies strictly between its ends and is a crest, and that ends within the trace
 pub record IsPlaced (signal : Signal) (peak : Placed) : Type 0 where
@@ -25,15 +25,17 @@ abbrev pub next_apex : ℕ → List Placed → ℕ
 next_apex at [] = at
 next_apex at (next ∷ later) = next.apex
 
--- peaks in a row
-abbrev pub Row : Signal → List Placed → Type 0
-Row signal [] = Unit {0}
-Row signal (peak ∷ later) = IsPlaced signal peak × IsAhead peak later × Row signal later
+-- peaks in order
+abbrev pub AreOrdered : Signal → List Placed → Type 0
+AreOrdered signal [] = Unit {0}
+AreOrdered signal (peak ∷ later) = IsPlaced signal peak × IsAhead peak later × AreOrdered signal later
 
--- runs of peaks in a row, the first of which begins at this sample or behind it, and each next one where the one before ends, or behind it
+-- runs of peaks in order, the first of which begins at this sample or behind it, and each next one where the one before
+-- ends, or behind it
 abbrev pub RunsFrom : Signal → ℕ → List (List Placed) → Type 0
 RunsFrom signal at [] = Unit {0}
-RunsFrom signal at (run ∷ runs) = (at ≤ start_of run) × (0 < length run) × Row signal run × RunsFrom signal (end_of run) runs
+RunsFrom signal at (run ∷ runs) =
+    (at ≤ start_of run) × (0 < length run) × AreOrdered signal run × RunsFrom signal (end_of run) runs
 
 -- where the last cluster ends, or the start of the trace
 abbrev pub reached : List Cluster → ℕ
