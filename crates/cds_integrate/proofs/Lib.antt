@@ -1,7 +1,9 @@
+pub mod RawLaws
 pub mod NumberLaws
 pub mod RowLaws
 pub mod PartLaws
 pub mod NodeLaws
+pub mod RiderLaws
 pub mod ShapeLaws
 pub mod AreaLaws
 pub mod FoundLaws
@@ -12,3 +14,7 @@ pub mod SumLaws
 pub mod ConservationLaws
 pub mod PeakSums
 pub mod StandLaws
+pub mod ComponentLaws
+pub mod FewLaws
+pub mod TimeLaws
+pub mod SeenLaws

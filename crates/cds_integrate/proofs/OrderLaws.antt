@@ -1,5 +1,6 @@
 -- The nodes of a cluster in their order, and the line between two of them in a row.
-use Rattle.std.proofs.Common.{◌≡◌, ℕ, zero, suc, ◌+◌, ◌<◌, ◌≤◌, inl, inr, Bool, true, false, List, [], ◌∷◌, ◌++◌, map, length, refl, sym, ap, ◌∙◌, append_assoc, arith}
+use Rattle.std.proofs.Common.{◌≡◌, ℕ, zero, suc, ◌+◌, ◌<◌, ◌≤◌, inl, inr, Bool, true, false, List, [], ◌∷◌, ◌++◌, map}
+use Rattle.std.proofs.Common.{length, refl, sym, ap, ◌∙◌, append_assoc, arith}
 use Rattle.std.specs.Prelude.{nat_lt, nat_le, ◌==◌, if◌then◌else◌}
 use Rattle.std.specs.List.{fold, list_any}
 use Rattle.std.proofs.lemmas.Bool.{cases_Bool, cases_eq}
@@ -28,7 +29,8 @@ up-more [] n up below = (tt, tt)
 up-more (x ∷ xs) n up below = (each-append (λ m. x < m) xs (n ∷ []) up.0 (below.0, tt), up-more xs n up.1 below.1)
 
 -- what passes among rising numbers
-up-passing : (f : ℕ → ℕ) (test : ℕ → Bool) (m : ℕ) → ((a b : ℕ) → a < b → b < m → f a < f b) → Up (map f (passing test m))
+up-passing : (f : ℕ → ℕ) (test : ℕ → Bool) (m : ℕ) → ((a b : ℕ) → a < b → b < m → f a < f b) →
+    Up (map f (passing test m))
 up-passing f test zero rising = tt
 up-passing f test (suc m) rising =
     let rest = up-passing f test m (λ a b order below. rising a b order (omega arith)) in
@@ -63,7 +65,8 @@ any-mid (x ∷ xs) a back =
     ]
 
 -- numbers behind a sample don't count as the last up to it
-last-keep : (back : List ℕ) (s found : ℕ) → Each (λ n. s < n) back → fold (λ found node. if nat_le node s then node else found) found back ≡ found
+last-keep : (back : List ℕ) (s found : ℕ) → Each (λ n. s < n) back →
+    fold (λ found node. if nat_le node s then node else found) found back ≡ found
 last-keep [] s found behind = refl
 last-keep (n ∷ ns) s found behind =
     let no_more : nat_le n s ≡ false = let h : s < n = behind.0 in grind (arith, common_steps) in
@@ -77,7 +80,8 @@ last-mid [] a back s found low behind =
     ap (λ (n : ℕ). fold (λ found node. if nat_le node s then node else found) n back) here ∙ last-keep back s a behind
 last-mid (x ∷ xs) a back s found low behind = last-mid xs a back s (if nat_le x s then x else found) low behind
 
-first-mid : (front : List ℕ) (b : ℕ) (back : List ℕ) (s : ℕ) → Each (λ n. n ≤ s) front → s < b → first_behind (front ++ b ∷ back) s ≡ b
+first-mid : (front : List ℕ) (b : ℕ) (back : List ℕ) (s : ℕ) → Each (λ n. n ≤ s) front → s < b →
+    first_behind (front ++ b ∷ back) s ≡ b
 first-mid [] b back s low behind =
     let is : nat_lt s b ≡ true = grind (arith, common_steps) in
     rw is refl
@@ -91,11 +95,16 @@ pub between-nodes : (front : List ℕ) (a b : ℕ) (back : List ℕ) (s : ℕ) �
     (last_up_to (front ++ a ∷ b ∷ back) s ≡ a) × (first_behind (front ++ a ∷ b ∷ back) s ≡ b)
 between-nodes front a b back s up low high =
     let split = up-split front a (b ∷ back) up in
-    let behind : Each (λ n. s < n) (b ∷ back) = (high, each-more (λ m. b < m) (λ n. s < n) back (λ n h. omega (arith, h, high)) split.1.1.0) in
+    let behind : Each (λ n. s < n) (b ∷ back) =
+    (high, each-more (λ m. b < m) (λ n. s < n) back (λ n h. omega (arith, h, high)) split.1.1.0) in
     let before : Each (λ n. n ≤ s) (front ++ a ∷ []) =
-    each-append (λ n. n ≤ s) front (a ∷ []) (each-more (λ x. x < a) (λ n. n ≤ s) front (λ n h. omega (arith, h, low)) split.0) (low, tt) in
-    let e : front ++ a ∷ b ∷ back ≡ (front ++ a ∷ []) ++ b ∷ back = sym (append_assoc front (a ∷ []) (b ∷ back)) in
-    (last-mid front a (b ∷ back) s 0 low behind, ap (λ nodes. first_behind nodes s) e ∙ first-mid (front ++ a ∷ []) b back s before high)
+    each-append (λ n. n ≤ s) front (a ∷ []) (each-more (λ x. x < a) (λ n. n ≤ s) front
+    (λ n h. omega (arith, h, low)) split.0) (low, tt) in
+    let e : front ++ a ∷ b ∷ back ≡ (front ++ a ∷ []) ++ b ∷ back = sym (append_assoc front (a ∷ []) (b ∷ back)) in (
+      last-mid front a (b ∷ back) s 0 low behind,
+      ap (λ nodes. first_behind nodes s) e ∙ first-mid
+          (front ++ a ∷ []) b back s before high,
+    )
 
 -- two nodes in a row rise
 pub nodes-rise : (front : List ℕ) (a b : ℕ) (back : List ℕ) → Up (front ++ a ∷ b ∷ back) → a < b
@@ -106,18 +115,22 @@ pub record AreNodes (nodes : List ℕ) (parts : List Part) (start end : ℕ) : T
   pub up : Up nodes
   pub places : Each (λ n. (start ≤ n) × (n ≤ end) × IsClear parts n) nodes
 
-pub cluster-nodes : (signal : Signal) (cluster : Cluster) (covered : List Bool) → 0 < length cluster.parts → Tiles cluster.start cluster.parts cluster.end →
-    length covered ≡ length cluster.parts → AreNodes (cluster_nodes signal cluster covered) cluster.parts cluster.start cluster.end
+pub cluster-nodes : (signal : Signal) (cluster : Cluster) (covered : List Bool) → 0 < length cluster.parts →
+    Tiles cluster.start cluster.parts cluster.end →
+    length covered ≡ length cluster.parts →
+    AreNodes (cluster_nodes signal cluster covered) cluster.parts cluster.start cluster.end
 cluster-nodes signal cluster covered some tiled whole =
     let points : List ℕ = cluster_points cluster in
     let fixed : List Bool = fixed_points cluster covered in
     let test : ℕ → Bool = is_node signal points fixed in
     let f : ℕ → ℕ = sample_of points in
-    let ready = cluster-ready cluster.start cluster.end cluster.forced cluster.parts covered (cluster.end + 1) some tiled (omega arith) whole in
+    let ready = cluster-ready cluster.start cluster.end cluster.forced cluster.parts covered
+    (cluster.end + 1) some tiled (omega arith) whole in
     let all = points-clear cluster tiled in
     record {
       up = up-passing f test (length points) ready.rising;
-      places = each-passing (λ n. (cluster.start ≤ n) × (n ≤ cluster.end) × IsClear cluster.parts n) f test (length points)
+      places = each-passing (λ n. (cluster.start ≤ n) × (n ≤ cluster.end) × IsClear cluster.parts n) f test
+          (length points)
           (λ i below.
           let here = each-at (λ n. (n ≤ cluster.end) × IsClear cluster.parts n) points i 0 all below in (
             elim (cases_eq i 0) [

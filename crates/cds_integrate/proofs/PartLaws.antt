@@ -3,7 +3,7 @@ use Rattle.std.proofs.Common.{◌≡◌, ℕ, zero, suc, ◌+◌, ◌<◌, ◌�
 use Rattle.std.specs.Prelude.{slice_index_or}
 use Rattle.std.specs.List.{fold}
 use Rattle.cds_base.specs.declared.cluster.Part.{Part}
-use Rattle.cds_base.specs.declared.cluster.Boundary.TheVariants.{Start}
+use Rattle.cds_base.specs.declared.cluster.Cut.TheVariants.{Start}
 use Rattle.cds_base.specs.Tiles.{Tiles}
 
 -- a sample lies inside no part
@@ -33,7 +33,8 @@ reached start parts = fold (λ end part. part.end) start parts
 
 -- each part of a cluster lies within it
 pub part-within : (start end k : ℕ) (parts : List Part) (d : Part) → Tiles start parts end → k < length parts →
-    (start ≤ (slice_index_or parts k d).start) × ((slice_index_or parts k d).start < (slice_index_or parts k d).end) × ((slice_index_or parts k d).end ≤ end)
+    (start ≤ (slice_index_or parts k d).start) × ((slice_index_or parts k d).start < (slice_index_or parts k d).end) ×
+    ((slice_index_or parts k d).end ≤ end)
 part-within start end k [] d tiled below = absurd (omega arith)
 part-within start end zero (part ∷ parts) d tiled below =
     (omega (arith, tiled.0), omega (arith, tiled.0, tiled.1), tiles-order part.end end parts tiled.2)
@@ -43,7 +44,8 @@ part-within start end (suc k) (part ∷ parts) d tiled below =
 
 -- each part begins where those before it end
 pub tiles-at : (start end k : ℕ) (parts : List Part) (d : Part) → Tiles start parts end → k < length parts →
-    ((slice_index_or parts k d).start ≡ reached start (take k parts)) × (reached start (take (k + 1) parts) ≡ (slice_index_or parts k d).end)
+    ((slice_index_or parts k d).start ≡ reached start (take k parts)) ×
+    (reached start (take (k + 1) parts) ≡ (slice_index_or parts k d).end)
 tiles-at start end k [] d tiled below = absurd (omega arith)
 tiles-at start end zero (part ∷ parts) d tiled below = (tiled.0, refl)
 tiles-at start end (suc k) (part ∷ parts) d tiled below =

@@ -1,5 +1,6 @@
 -- How the parts of a cluster stand on their lines.
-use Rattle.std.proofs.Common.{◌≡◌, ℕ, suc, ◌+◌, ◌-◌, ◌*◌, ◌<◌, ◌≤◌, inl, inr, Bool, true, false, not, ◌&&◌, List, [], ◌∷◌, map, length, All, pos, ◌*ℤ◌, ◌≤ℤ◌, refl, sym, arith}
+use Rattle.std.proofs.Common.{◌≡◌, ℕ, suc, ◌+◌, ◌-◌, ◌*◌, ◌<◌, ◌≤◌, inl, inr, Bool, true, false, not, ◌&&◌, List, []}
+use Rattle.std.proofs.Common.{◌∷◌, map, length, All, pos, ◌*ℤ◌, ◌≤ℤ◌, refl, sym, arith}
 use Rattle.std.proofs.lemmas.List.{length-map}
 use Rattle.std.specs.Prelude.{slice_index_or, nat_lt, ◌==◌}
 use Rattle.std.specs.List.{list_any}
@@ -11,37 +12,33 @@ use Rattle.cds_base.specs.declared.event.Event.{Event}
 use Rattle.cds_base.specs.declared.cluster.Part.{Part}
 use Rattle.cds_base.specs.declared.cluster.Cluster.{Cluster}
 use Rattle.cds_base.specs.Tiles.{Tiles}
-use Rattle.cds_trace.specs.Signal.{Signal, IsTrace, sample_at}
+use Rattle.cds_trace.specs.Signal.{Signal, IsSample, IsTrace, sample_at}
 use Rattle.cds_trace.specs.Heights.{span, height_by_span}
-use Rattle.cds_area.proofs.AreaLaws.{area-whole, area-not_negative, abs-sample-le}
+use Rattle.std.proofs.lemmas.List.Elements.{All-get_or}
 use Rattle.cds_baseline.specs.Chord.{chord_by_span, is_over}
 use Rattle.cds_baseline.specs.Cluster.{is_valley}
 use Rattle.cds_baseline.specs.Tangent.{tangent_sample}
 use Rattle.cds_events.specs.Standing.{IsPart, IsCluster}
-use Rattle.cds_integrate.specs.declared.shapes.Shape.{Shape}
-use Rattle.cds_integrate.specs.Lines.{chord, last_up_to, first_behind}
-use Rattle.cds_integrate.specs.Shapes.{skims, is_covered, nodes_of, is_skimmed, is_rider, rider_shape, plain_shape, shape_of}
-use Rattle.cds_integrate.specs.Measures.{twice_whole_area}
+use Rattle.cds_integrate.specs.Shapes.{Shape}
+use Rattle.cds_trace.specs.Heights.{chord}
+use Rattle.cds_integrate.specs.Lines.{last_up_to, first_behind}
+use Rattle.cds_integrate.specs.Shapes.{skims, is_covered, nodes_of, is_skimmed, is_rider, rider_shape, plain_shape}
+use Rattle.cds_integrate.specs.Shapes.{shape_of}
 use Rattle.cds_integrate.specs.Standing.{from_reach, IsOver, IsShape, InRow}
-use Rattle.cds_integrate.proofs.NumberLaws.{times-sign}
+use Rattle.cds_integrate.proofs.RiderLaws.{chord-whole}
 use Rattle.cds_integrate.proofs.PartLaws.{IsClear, tiles-order, part-within, clear-at}
 use Rattle.cds_integrate.proofs.NodeLaws.{IsNextNode, last_up_to-low, next-node}
 use Rattle.cds_integrate.proofs.RowLaws.{reach-on, reach-end}
 
--- a chord under which no sample lies has an area that isn't negative
-pub twice-not_negative : (signal : Signal) (v j : ℕ) → v < j → j < length signal.samples →
-    ((k : ℕ) → v ≤ k → k ≤ j → is_over signal v j k ≡ true) → pos 0 ≤ℤ twice_whole_area signal (chord signal v j)
-twice-not_negative signal v j order inside over =
-    let line = chord signal v j in
-    let high : (k : ℕ) → k ≤ j - v → pos 0 ≤ℤ height_by_span signal line (v + k) =
-    λ k below. omega (arith, ints, le-true (chord_by_span signal v j (v + k)) (sample_at signal (v + k) *ℤ pos (j - v)) (over (v + k) (omega arith) (omega arith))) in
-    let whole = area-whole signal line (omega arith) inside in
-    let sum = area-not_negative signal line v (j - v) high in
-    times-sign (twice_whole_area signal line) (span line) (omega arith) (rw whole at sum)
+-- each sample of a trace is one
+sample-is : (signal : Signal) (i : ℕ) → IsTrace signal → i < length signal.samples → IsSample (sample_at signal i)
+sample-is signal i trace inside = All-get_or IsSample signal.samples i (pos 0) inside trace.samples
 
 -- a part of the baseline lies on its line
-pub plain-is : (signal : Signal) (nodes : List ℕ) (part : Part) → IsTrace signal → IsPart signal part → part.start < part.end →
-    part.end ≤ first_behind nodes part.start → first_behind nodes part.start < length signal.samples → IsShape signal (plain_shape signal nodes part)
+pub plain-is : (signal : Signal) (nodes : List ℕ) (part : Part) → IsTrace signal → IsPart signal part →
+    part.start < part.end →
+    part.end ≤ first_behind nodes part.start → first_behind nodes part.start < length signal.samples →
+    IsShape signal (plain_shape signal nodes part)
 plain-is signal nodes part trace is order clear within =
     let low : last_up_to nodes part.start ≤ part.start = last_up_to-low nodes part.start 0 (omega arith) in
     record {
@@ -53,21 +50,25 @@ plain-is signal nodes part trace is order clear within =
       to = clear;
       within = within;
       levels = (
-        abs-sample-le signal 100000000 (last_up_to nodes part.start) trace (omega (arith, ints)) (omega (arith, low, order, clear, within)),
-        abs-sample-le signal 100000000 (first_behind nodes part.start) trace (omega (arith, ints)) within,
+        sample-is signal (last_up_to nodes part.start) trace (omega (arith, low, order, clear, within)),
+        sample-is signal (first_behind nodes part.start) trace within,
       );
       crest = is.crest;
-      whole = λ is. absurd (grind (arith, common_steps));
+      exact = λ is. absurd (grind (arith, common_steps));
       over = λ is. absurd (grind (arith, common_steps));
     }
 
 -- and so does a rider
-pub rider-is : (signal : Signal) (part : Part) → IsTrace signal → part.end < length signal.samples → IsPart signal part → part.start < part.end →
-    part.start < tangent_sample signal part.start part.end → tangent_sample signal part.start part.end ≤ part.end → part.apex < tangent_sample signal part.start part.end →
-    ((k : ℕ) → part.start ≤ k → k ≤ tangent_sample signal part.start part.end → is_over signal part.start (tangent_sample signal part.start part.end) k ≡ true) →
+pub rider-is : (signal : Signal) (part : Part) → IsTrace signal → part.end < length signal.samples →
+    IsPart signal part → part.start < part.end →
+    part.start < tangent_sample signal part.start part.end → tangent_sample signal part.start part.end ≤ part.end →
+    part.apex < tangent_sample signal part.start part.end →
+    ((k : ℕ) → part.start ≤ k → k ≤ tangent_sample signal part.start part.end → is_over signal part.start
+    (tangent_sample signal part.start part.end) k ≡ true) →
     IsShape signal (rider_shape signal part)
 rider-is signal part trace within is order beyond inside high over =
     let j : ℕ = tangent_sample signal part.start part.end in
+    let whole = chord-whole signal part.start j beyond (omega (arith, inside, within)) over in
     record {
       low = is.low;
       high = omega (arith, high);
@@ -77,12 +78,12 @@ rider-is signal part trace within is order beyond inside high over =
       to = omega arith;
       within = omega (arith, inside, within);
       levels = (
-        abs-sample-le signal 100000000 part.start trace (omega (arith, ints)) (omega (arith, order, within)),
-        abs-sample-le signal 100000000 j trace (omega (arith, ints)) (omega (arith, inside, within)),
+        sample-is signal part.start trace (omega (arith, order, within)),
+        sample-is signal j trace (omega (arith, inside, within)),
       );
       crest = λ rises falls. is.crest rises (omega (arith, falls, inside));
-      whole = λ _. refl;
-      over = λ _. twice-not_negative signal part.start j beyond (omega (arith, inside, within)) over;
+      exact = λ _. whole.exact;
+      over = λ _. whole.least;
     }
 
 free-of : (b : Bool) → not b ≡ true → b ≡ false
@@ -90,18 +91,21 @@ free-of true h = sym h
 free-of false h = refl
 
 -- a rider doesn't begin at a node
-pub rider-apart : (signal : Signal) (events : List Event) (nodes : List ℕ) (part : Part) → is_rider signal events nodes part ≡ true →
+pub rider-apart : (signal : Signal) (events : List Event) (nodes : List ℕ) (part : Part) →
+    is_rider signal events nodes part ≡ true →
     list_any (λ other. other == part.start) nodes ≡ false
 rider-apart signal events nodes part is =
     let skim : Bool = list_any (skims (part.start * signal.period)) events in
     let node : Bool = list_any (λ other. other == part.start) nodes in
-    let skimmed = (and_parts (is_skimmed signal events nodes part) (nat_lt part.apex (tangent_sample signal part.start part.end)) is).0 in
+    let skimmed = (and_parts (is_skimmed signal events nodes part)
+    (nat_lt part.apex (tangent_sample signal part.start part.end)) is).0 in
     let rest = (and_parts (is_valley part.left) (skim && not node) skimmed).1 in
     let free = (and_parts skim (not node) rest).1 in
     free-of node free
 
 -- riders ahead reach no farther than a node that doesn't lie before them
-pub reach-clear : (signal : Signal) (events : List Event) (nodes : List ℕ) (node reach start end : ℕ) (parts : List Part) → Tiles start parts end →
+pub reach-clear : (signal : Signal) (events : List Event) (nodes : List ℕ) (node reach start end : ℕ)
+    (parts : List Part) → Tiles start parts end →
     reach ≤ node → start ≤ node → IsClear parts node → list_any (λ other. other == node) nodes ≡ true →
     from_reach reach (map (shape_of signal events nodes) parts) ≤ node
 reach-clear signal events nodes node reach start end [] tiled low at clear among = low
@@ -112,7 +116,8 @@ reach-clear signal events nodes node reach start end (part ∷ parts) tiled low 
           let beyond : part.end ≤ node = elim clear.0 [
             | inl before ↦
                 let same : part.start ≡ node = omega (arith, tiled.0, before, at) in
-                let apart : list_any (λ other. other == part.start) nodes ≡ false = rider-apart signal events nodes part is in
+                let apart : list_any (λ other. other == part.start) nodes ≡ false =
+                rider-apart signal events nodes part is in
                 absurd (grind (arith, common_steps, among, rw same at apart))
             | inr behind ↦ behind
           ] in
@@ -120,7 +125,11 @@ reach-clear signal events nodes node reach start end (part ∷ parts) tiled low 
           (reach-clear signal events nodes node part.end part.end end parts tiled.2 beyond beyond clear.1 among)
       | inr other ↦
           let shape : shape_of signal events nodes part ≡ plain_shape signal nodes part = rw other refl in
-          rw (shape, reach-end reach (plain_shape signal nodes part) (map (shape_of signal events nodes) parts) refl) low
+          rw (
+            shape,
+            reach-end reach (plain_shape signal nodes part)
+                (map (shape_of signal events nodes) parts) refl,
+          ) low
     ]
 
 -- the parts of a cluster stand in a row, each on a line that reaches as far as its area goes
@@ -135,8 +144,10 @@ row-of signal events nodes every end next start (part ∷ parts) tiled clear sha
     let inside = tiles-order part.end end parts tiled.2 in
     let node = next part.start (omega (arith, tiled.0, tiled.1, inside)) in
     let here = clear (first_behind nodes part.start) node.clear in
-    let rest = row-of signal events nodes every end next part.end parts tiled.2 (λ n h. (clear n h).1) (λ k d below. shapes (suc k) d (omega arith)) in
-    let first : IsShape signal (shape_of signal events nodes part) = shapes 0 (shape_of signal events nodes part) (omega arith) in
+    let rest = row-of signal events nodes every end next part.end parts tiled.2 (λ n h. (clear n h).1)
+    (λ k d below. shapes (suc k) d (omega arith)) in
+    let first : IsShape signal (shape_of signal events nodes part) =
+    shapes 0 (shape_of signal events nodes part) (omega arith) in
     elim (cases_Bool (is_rider signal events nodes part)) [
       | inl is ↦
           let shape : shape_of signal events nodes part ≡ rider_shape signal part = rw is refl in
@@ -147,14 +158,23 @@ row-of signal events nodes every end next start (part ∷ parts) tiled clear sha
             | inl before ↦ absurd (omega (arith, before, node.behind))
             | inr behind ↦ behind
           ] in
-          rw shape (tiled.0, rw shape at first, reach-clear signal events nodes (first_behind nodes part.start) part.end part.end end parts tiled.2 beyond beyond here.1 node.among, rest)
+          rw shape (
+            tiled.0,
+            rw shape at first,
+            reach-clear signal events nodes
+                (first_behind nodes part.start) part.end part.end end parts tiled.2 beyond beyond here.1 node.among,
+            rest,
+          )
     ]
 
 -- the node behind each sample of a cluster
-pub cluster-next : (signal : Signal) (events : List Event) (cluster : Cluster) → IsCluster signal 0 cluster → (at : ℕ) → at < cluster.end →
-    IsNextNode (nodes_of signal events cluster) cluster.parts cluster.end at (first_behind (nodes_of signal events cluster) at)
+pub cluster-next : (signal : Signal) (events : List Event) (cluster : Cluster) → IsCluster signal 0 cluster →
+    (at : ℕ) → at < cluster.end →
+    IsNextNode (nodes_of signal events cluster) cluster.parts cluster.end at
+    (first_behind (nodes_of signal events cluster) at)
 cluster-next signal events cluster is at before =
-    next-node signal cluster (map (is_covered signal events) cluster.parts) at is.some is.tiled (length-map cluster.parts (is_covered signal events)) before
+    next-node signal cluster (map (is_covered signal events) cluster.parts) at is.some is.tiled
+    (length-map cluster.parts (is_covered signal events)) before
 
 -- each part of a cluster stands over its baseline
 pub cluster-over : (signal : Signal) (events : List Event) (cluster : Cluster) → IsCluster signal 0 cluster →
@@ -166,9 +186,10 @@ cluster-over signal events cluster is k d below =
     record {
       part_is = is.parts k d below;
       order = here.1;
-      clear = elim (clear-at (first_behind (nodes_of signal events cluster) part.start) k cluster.parts d node.clear below) [
-        | inl before ↦ absurd (omega (arith, before, node.behind))
-        | inr behind ↦ behind
-      ];
+      clear = elim (clear-at (first_behind (nodes_of signal events cluster) part.start) k cluster.parts d node.clear
+          below) [
+            | inl before ↦ absurd (omega (arith, before, node.behind))
+            | inr behind ↦ behind
+          ];
       within = omega (arith, node.within, is.ends);
     }

@@ -5,3 +5,5 @@ pub mod Peaks
 pub mod Row
 pub mod Sums
 pub mod Standing
+pub mod Held
+pub mod Seen

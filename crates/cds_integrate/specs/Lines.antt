@@ -1,13 +1,10 @@
--- The straight lines below peaks: chords of the signal, and the baseline between two nodes in a row.
+-- The straight lines below peaks: the baseline between two neighbouring nodes.
 use Rattle.std.specs.Prelude.{ℕ, List, nat_le, nat_lt, if◌then◌else◌}
 use Rattle.std.specs.List.{fold, find}
 use Rattle.std.specs.Option.{unwrap_or}
 use Rattle.cds_base.specs.declared.peak.Line.{Line}
-use Rattle.cds_trace.specs.Signal.{Signal, sample_at}
-
--- the straight line from one sample of the signal to another
-abbrev pub chord : Signal → ℕ → ℕ → Line
-chord signal a b = record { from = a; from_y = sample_at signal a; to = b; to_y = sample_at signal b }
+use Rattle.cds_trace.specs.Signal.{Signal}
+use Rattle.cds_trace.specs.Heights.{chord}
 
 -- the last of some rising samples that doesn't lie behind this one
 abbrev pub last_up_to : List ℕ → ℕ → ℕ

@@ -2,6 +2,7 @@
 -- rules. Times are in microseconds, those of events in milliseconds.
 use Rattle.std.specs.Prelude.{ℕ, ◌*◌, ◌&&◌, ◌==◌, Bool, true, false, not, List, map, nat_lt, if◌then◌else◌}
 use Rattle.std.specs.List.{list_any}
+use Rattle.cds_base.specs.declared.peak.Line.{Line}
 use Rattle.cds_base.specs.declared.event.Event.{Event}
 use Rattle.cds_base.specs.declared.event.Event.TheVariants.{Inhibit, Valley, Drop, Baseline, Slope, Skim}
 use Rattle.cds_base.specs.declared.cluster.Part.{Part}
@@ -10,8 +11,18 @@ use Rattle.cds_trace.specs.Signal.{Signal}
 use Rattle.cds_base.specs.EventTime.{is_in_window}
 use Rattle.cds_baseline.specs.Cluster.{is_valley, cluster_nodes}
 use Rattle.cds_baseline.specs.Tangent.{tangent_sample}
-use Rattle.cds_integrate.specs.declared.shapes.Shape.{Shape}
-use Rattle.cds_integrate.specs.Lines.{chord, line_over}
+use Rattle.cds_trace.specs.Heights.{chord}
+use Rattle.cds_integrate.specs.Lines.{line_over}
+
+-- a part with the line below it: the samples at which it starts, has its apex and ends, where its part of the cluster
+-- ends, and whether it is skimmed off by a tangent
+pub record Shape : Type 0 where
+  pub start : ℕ
+  pub apex : ℕ
+  pub end : ℕ
+  pub reach : ℕ
+  pub rider : Bool
+  pub line : Line
 
 -- the event makes a valley at this time a node
 abbrev pub covers : ℕ → Event → Bool
@@ -42,7 +53,8 @@ nodes_of signal events cluster = cluster_nodes signal cluster (map (is_covered s
 -- the left end of a part is a valley in the window of a skim event, and no node
 abbrev pub is_skimmed : Signal → List Event → List ℕ → Part → Bool
 is_skimmed signal events nodes part =
-    is_valley part.left && (list_any (skims (part.start * signal.period)) events && not (list_any (λ node. node == part.start) nodes))
+    is_valley part.left && (list_any (skims (part.start * signal.period)) events && not
+    (list_any (λ node. node == part.start) nodes))
 
 -- and its tangent ends behind its apex
 abbrev pub is_rider : Signal → List Event → List ℕ → Part → Bool
@@ -53,12 +65,28 @@ is_rider signal events nodes part =
 abbrev pub rider_shape : Signal → Part → Shape
 rider_shape signal part =
     let end = tangent_sample signal part.start part.end in
-    record { start = part.start; apex = part.apex; end = end; reach = part.end; rider = true; line = chord signal part.start end }
+    record {
+      start = part.start;
+      apex = part.apex;
+      end = end;
+      reach = part.end;
+      rider = true;
+      line = chord signal
+          part.start end;
+    }
 
 -- any other part: it keeps its range, over the baseline
 abbrev pub plain_shape : Signal → List ℕ → Part → Shape
 plain_shape signal nodes part =
-    record { start = part.start; apex = part.apex; end = part.end; reach = part.end; rider = false; line = line_over signal nodes part.start }
+    record {
+      start = part.start;
+      apex = part.apex;
+      end = part.end;
+      reach = part.end;
+      rider = false;
+      line = line_over
+          signal nodes part.start;
+    }
 
 abbrev pub shape_of : Signal → List Event → List ℕ → Part → Shape
 shape_of signal events nodes part =

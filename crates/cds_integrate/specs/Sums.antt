@@ -4,14 +4,13 @@ use Rattle.std.specs.Prelude.{◌≡◌, ℕ, ◌*◌, ◌<◌, List, [], ◌∷
 use Rattle.std.specs.List.{fold, filter, list_any}
 use Rattle.cds_base.specs.declared.event.Event.{Event}
 use Rattle.cds_base.specs.declared.peak.Peak.{Peak}
-use Rattle.cds_rules.specs.declared.method.Method.{Method}
+use Rattle.cds_rules.specs.Fields.{Fields}
 use Rattle.cds_trace.specs.Signal.{Signal}
 use Rattle.cds_trace.specs.Heights.{span}
 use Rattle.cds_area.specs.Area.{area_by_double_span}
-use Rattle.cds_integrate.specs.declared.measures.Measured.{Measured}
-use Rattle.cds_integrate.specs.declared.row_part.Answer.{Answer}
-use Rattle.cds_integrate.specs.declared.row_part.Answer.TheVariants as variant
-use Rattle.cds_integrate.specs.Lines.{chord}
+use Rattle.cds_integrate.specs.Measures.{Measured}
+use Rattle.cds_integrate.specs.Row.{Answer, Peaks, TooMany}
+use Rattle.cds_trace.specs.Heights.{chord}
 use Rattle.cds_integrate.specs.Shapes.{nodes_of}
 use Rattle.cds_integrate.specs.Measures.{is_rejected}
 use Rattle.cds_integrate.specs.Row.{events_of, row_clusters, parts_of}
@@ -33,7 +32,8 @@ pub record AreTogether (fractions : List (ℤ × ℕ)) (num : ℤ) (den : ℕ) :
 
 -- these areas are together the area over the whole chord of two samples
 abbrev pub AreWhole : Signal → ℕ → ℕ → List (ℤ × ℕ) → Type 0
-AreWhole signal a b areas = AreTogether areas (area_by_double_span signal (chord signal a b) a b) (2 * span (chord signal a b))
+AreWhole signal a b areas =
+    AreTogether areas (area_by_double_span signal (chord signal a b) a b) (2 * span (chord signal a b))
 
 -- the area of a part as a fraction, and that of a peak
 abbrev pub area_fraction : Measured → ℤ × ℕ
@@ -49,14 +49,16 @@ lies_within a b part = nat_le a part.shape.start && nat_le part.shape.end b
 abbrev pub peak_lies_within : ℕ → ℕ → Peak → Bool
 peak_lies_within a b peak = nat_le a peak.start && nat_le peak.end b
 
--- the areas of the parts between two samples, riders and rejected ones included, are together the area over their whole chord
+-- the areas of the parts between two samples, riders and rejected ones included, are together the area over their whole
+-- chord
 abbrev pub IsConserved : Signal → List Measured → ℕ → ℕ → Type 0
 IsConserved signal parts a b = AreWhole signal a b (map area_fraction (filter (lies_within a b) parts))
 
 -- where none of these parts is rejected, the areas of the peaks between the two samples are together the same
-abbrev pub IsSummed : Signal → Method → List Measured → List Peak → ℕ → ℕ → Type 0
-IsSummed signal method parts peaks a b =
-    list_any (is_rejected signal method) (filter (lies_within a b) parts) ≡ false → AreWhole signal a b (map peak_fraction (filter (peak_lies_within a b) peaks))
+abbrev pub IsSummed : Signal → Fields → List Measured → List Peak → ℕ → ℕ → Type 0
+IsSummed signal fields parts peaks a b =
+    list_any (is_rejected signal fields) (filter (lies_within a b) parts) ≡ false →
+    AreWhole signal a b (map peak_fraction (filter (peak_lies_within a b) peaks))
 
 -- P holds of each two neighbours in a list of samples
 abbrev pub EachTwo : (ℕ → ℕ → Type 0) → List ℕ → Type 0
@@ -65,14 +67,16 @@ EachTwo P (a ∷ []) = Unit {0}
 EachTwo P (a ∷ b ∷ samples) = P a b × EachTwo P (b ∷ samples)
 
 -- P holds of the ends of each baseline line of a row: of each two neighbouring nodes, in each of its clusters
-abbrev pub OverEachLine : Signal → Method → List Event → (ℕ → ℕ → Type 0) → Type 0
-OverEachLine signal method manual P = All (λ cluster. EachTwo P (nodes_of signal (events_of method manual) cluster)) (row_clusters signal method manual)
+abbrev pub OverEachLine : Signal → Fields → List Event → (ℕ → ℕ → Type 0) → Type 0
+OverEachLine signal fields manual P =
+    All (λ cluster. EachTwo P (nodes_of signal (events_of fields manual) cluster)) (row_clusters signal fields manual)
 
 -- over each baseline line of a row the areas of all its parts are conserved
-abbrev pub Conserves : Signal → Method → List Event → Type 0
-Conserves signal method manual = OverEachLine signal method manual (IsConserved signal (parts_of signal method manual))
+abbrev pub Conserves : Signal → Fields → List Event → Type 0
+Conserves signal fields manual = OverEachLine signal fields manual (IsConserved signal (parts_of signal fields manual))
 
 -- and those of its peaks are, where no part over the line is rejected; a row of too many raw peaks has no peaks
-abbrev pub Sums : Signal → Method → List Event → Answer → Type 0
-Sums signal method manual (variant.Peaks peaks) = OverEachLine signal method manual (IsSummed signal method (parts_of signal method manual) peaks)
-Sums signal method manual (variant.TooMany number) = Unit {0}
+abbrev pub Sums : Signal → Fields → List Event → Answer → Type 0
+Sums signal fields manual (Peaks peaks) =
+    OverEachLine signal fields manual (IsSummed signal fields (parts_of signal fields manual) peaks)
+Sums signal fields manual (TooMany number) = Unit {0}

@@ -1,7 +1,13 @@
-ghost use Rattle.std.specs.Prelude.{◌≡◌, ◌+◌, ◌-◌, ◌*◌, ◌^◌, ◌<◌, ◌≤◌, ℕ, pos, ◌+ℤ◌, ◌-ℤ◌, ◌*ℤ◌, ◌≤ℤ◌, All, IfOk, int_le, int_lt, ◌||◌, length, unsigned_abs, if◌then◌else◌};
+//! The exact areas and heights of parts, and which parts are rejected.
+ghost use Rattle.std.specs.Prelude.{◌≡◌, ◌+◌, ◌-◌, ◌*◌, ◌^◌, ◌<◌, ◌≤◌, ℕ, pos, ◌+ℤ◌, ◌-ℤ◌, ◌*ℤ◌, ◌≤ℤ◌, All, IfOk};
+ghost use Rattle.std.specs.Prelude.{int_le, int_lt, ◌||◌, length, unsigned_abs, if◌then◌else◌};
 ghost use Rattle.std.specs.Vec.{vec_len};
-ghost use Rattle.cds_trace.specs.Heights.{span};
-ghost use Rattle.cds_integrate.specs.Measures.{area_end, gross_area, gross_areas, twice_whole_area, twice_areas, riders, measure, measured, reported_area, is_rejected};
+ghost use Rattle.cds_rules.specs.Fields.{fields_of};
+ghost use Rattle.cds_base.specs.declared.peak.TheConstants.{AREA_LIMIT, HEIGHT_LIMIT};
+ghost use Rattle.cds_trace.specs.declared.trace.TheConstants.{MOST_SAMPLES};
+ghost use Rattle.cds_trace.specs.Heights.{span, height_by_span};
+ghost use Rattle.cds_integrate.specs.Measures.{area_end, gross_area, gross_areas, twice_area, twice_areas, riders};
+ghost use Rattle.cds_integrate.specs.Measures.{measure, measured, reported_area, is_rejected};
 ghost use Rattle.cds_integrate.specs.Standing.{IsShape, Reaches, InRow, IsMeasured};
 
 use crate::shapes::Shape;
@@ -10,14 +16,25 @@ use cds_base::{Line, NoMemory, Ratio, Steps};
 use cds_rules::Method;
 use cds_trace::Trace;
 use std::alloc::Global;
+use std::marker::Model;
 use std::sync::ledger::Ledger;
 
-/// A part with its area, times twice the span of its line, and its height, times the span.
+/// A part with its area, times twice the span of its line, and its height, times the span. Seen as a plain record.
 #[derive(Clone, Copy, Debug)]
 pub(crate) struct Measured {
     pub shape: Shape,
     pub area: i128,
     pub height: i128,
+}
+
+impl Model for Measured {
+    ghost use Rattle.cds_integrate.specs.Measures.{Measured as Seen};
+
+    ghost Value = { Seen };
+
+    ghost view = { λ m. record { shape = m.shape; area = m.area; height = m.height } };
+
+    ghost inverse = { λ m. record { shape = m.shape; area = m.area; height = m.height } };
 }
 
 /// How many samples lie from one end of a line to the other.
@@ -27,6 +44,15 @@ pub(crate) fn span(line: Line) -> u32
     ensures some { 0 < result }
 {
     line.to - line.from
+}
+
+/// How many samples lie from one end of the line of a part to the other.
+fn line_span(shape: Shape) -> u32
+    requires { shape.line.from < shape.line.to }
+    ensures value { result ≡ span shape.line }
+    ensures some { 0 < result }
+{
+    span(shape.line)
 }
 
 /// How far the area of a part goes, before these later ones.
@@ -83,16 +109,16 @@ fn gross_areas<L: Ledger>(
 }
 
 /// Twice the area of a rider, from its area times twice its line's span.
-fn twice_whole_area(rider: Shape, gross: i128, trace: &Trace) -> i128
+fn twice_area(rider: Shape, gross: i128, trace: &Trace) -> i128
     requires shape { IsShape trace.now rider }
-    requires whole { gross ≡ twice_whole_area trace.now rider.line *ℤ pos (span rider.line) }
-    requires over { pos 0 ≤ℤ twice_whole_area trace.now rider.line }
+    requires whole { gross ≡ twice_area trace.now rider *ℤ pos (span rider.line) }
+    requires over { pos 0 ≤ℤ twice_area trace.now rider }
     requires small { unsigned_abs gross < 2 ^ 66 }
-    ensures value { result ≡ twice_whole_area trace.now rider.line }
+    ensures value { result ≡ twice_area trace.now rider }
     ensures least { pos 0 ≤ℤ result }
     ensures small { unsigned_abs result < 2 ^ 66 }
 {
-    (gross.unsigned_abs() / u128::from(span(rider.line))) as i128
+    (gross.unsigned_abs() / u128::from(line_span(rider))) as i128
 }
 
 /// A sum of areas with one more.
@@ -102,6 +128,13 @@ fn added(sum: i128, more: i128) -> i128
     ensures { result ≡ sum +ℤ more }
 {
     sum + more
+}
+
+/// Whether a part is a rider.
+fn rides(shape: Shape) -> bool
+    ensures { result ≡ shape.rider }
+{
+    shape.rider
 }
 
 /// Twice the areas of the riders directly ahead, from the gross areas of the parts there.
@@ -116,10 +149,11 @@ fn taken(later: &[Shape], gross: &[i128], trace: &Trace) -> i128
 {
     let mut sum = 0;
     for k in 0..later.len() {
-        if !later[k].rider {
+        let next = later[k];
+        if !rides(next) {
             return sum;
         }
-        sum = added(sum, twice_whole_area(later[k], gross[k], trace));
+        sum = added(sum, twice_area(next, gross[k], trace));
     }
     sum
 }
@@ -144,7 +178,7 @@ fn taken_from(shape: Shape, later: &[Shape], gross: &[i128], trace: &Trace) -> i
 fn without(gross: i128, taken: i128, span: u32) -> i128
     requires gross { unsigned_abs gross < 2 ^ 66 }
     requires taken { unsigned_abs taken ≤ 2 ^ 98 }
-    requires span { span ≤ 100000 }
+    requires span { span ≤ MOST_SAMPLES }
     ensures { result ≡ gross -ℤ taken *ℤ pos span }
 {
     gross - taken * i128::from(span)
@@ -172,13 +206,25 @@ fn measure<L: Ledger>(
     ensures counted { steps.new ≡ steps.old + 1 }
 {
     let samples = trace.len();
-    prove!(shape.line.to < samples);
+    prove!(1 < samples);
     let taken = taken_from(shape, later, later_gross, trace);
     Measured {
         shape,
-        area: without(gross, taken, span(shape.line)),
-        height: height(shape.apex, &shape.line, trace, steps).num,
+        area: without(gross, taken, line_span(shape)),
+        height: apex_height(shape, trace, steps),
     }
+}
+
+/// The height of a part at its apex, times the span of its line. One step.
+fn apex_height<L: Ledger>(shape: Shape, trace: &Trace, steps: &mut Steps<L>) -> i128
+    requires { IsShape trace.now shape }
+    ensures value { result ≡ height_by_span trace.now shape.line shape.apex }
+    ensures small { unsigned_abs result < HEIGHT_LIMIT }
+    ensures counted { steps.new ≡ steps.old + 1 }
+{
+    let samples = trace.len();
+    prove!(shape.line.to < samples);
+    height(shape.apex, &shape.line, trace, steps).num
 }
 
 /// Parts in a row with their areas and heights, from their gross areas. One step for each.
@@ -256,7 +302,7 @@ pub(crate) fn reported_area(part: Measured, trace: &Trace) -> u64
     requires part { IsMeasured trace.now part }
     requires sign { pos 0 ≤ℤ part.area }
     ensures value { result ≡ reported_area trace.now part }
-    ensures small { result < 2 ^ 52 }
+    ensures small { result < AREA_LIMIT }
 {
     units(area_ratio(part), trace.period())
 }
@@ -280,7 +326,7 @@ fn is_flat(part: Measured) -> bool
 /// method's least.
 pub(crate) fn is_rejected(part: Measured, trace: &Trace, method: &Method) -> bool
     requires { IsMeasured trace.now part }
-    ensures { result ≡ is_rejected trace.now method.now part }
+    ensures { result ≡ is_rejected trace.now (fields_of method.now) part }
 {
     if is_flat(part) {
         return true;

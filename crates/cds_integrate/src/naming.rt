@@ -1,22 +1,24 @@
-ghost use Rattle.std.specs.Prelude.{◌≡◌, ◌*◌, ◌<◌, ◌≤◌, All, IfOk, length, map};
+//! Where components are looked for, the times of peaks, and the components that peaks are named.
+ghost use Rattle.std.specs.Prelude.{◌≡◌, ◌+◌, ◌*◌, ◌≤◌, All, IfOk, length, map};
 ghost use Rattle.std.specs.Vec.{vec_len};
+ghost use Rattle.cds_rules.specs.Fields.{fields_of};
 ghost use Rattle.cds_rules.specs.declared.limits.TheConstants.{MOST_COMPONENTS};
-ghost use Rattle.cds_integrate.specs.Peaks.{gives, component_of};
-ghost use Rattle.cds_integrate.specs.Row.{windows_of, apex_time};
+ghost use Rattle.cds_integrate.specs.Peaks.{time_of, gives, component_of};
+ghost use Rattle.cds_integrate.specs.Row.{windows_of};
+ghost use Rattle.cds_integrate.specs.Standing.{IsFound};
 
 use crate::found::Found;
-use cds_base::{NoMemory, Window};
+use cds_base::{MILLISECOND_US, NoMemory, Steps, Window};
+use cds_figures::peak_time;
 use cds_names::Names;
 use cds_rules::Method;
 use cds_trace::Trace;
 use std::alloc::Global;
-
-/// The times of components are in milliseconds.
-const MILLISECOND_US: u64 = 1000;
+use std::sync::ledger::Ledger;
 
 /// Where the components of a method are looked for.
 pub(crate) fn windows_of(alloc: Global, method: &Method) -> Result<Vec<Window>, NoMemory>
-    ensures value { IfOk result (λ v. v.items ≡ windows_of method.now) }
+    ensures value { IfOk result (λ v. v.items ≡ windows_of (fields_of method.now)) }
     ensures len { IfOk result (λ v. vec_len v ≡ length method.now.components) }
 {
     let components = method.components.as_slice();
@@ -30,20 +32,43 @@ pub(crate) fn windows_of(alloc: Global, method: &Method) -> Result<Vec<Window>, 
     Ok(windows)
 }
 
-/// The apex times of parts, in microseconds.
-pub(crate) fn apex_times(
+/// The time of a part under the method's rules, in microseconds. At most three steps.
+fn time_of<L: Ledger>(found: Found, trace: &Trace, method: &Method, steps: &mut Steps<L>) -> u64
+    requires { IsFound trace.now (fields_of method.now) found }
+    ensures value { result ≡ time_of trace.now (fields_of method.now) found }
+    ensures least { steps.old ≤ steps.new }
+    ensures most { steps.new ≤ steps.old + 3 }
+{
+    let shape = found.part.shape;
+    let samples = trace.len();
+    prove!(shape.end < samples);
+    peak_time(
+        shape.start,
+        shape.apex,
+        shape.end,
+        method.rules,
+        trace,
+        steps,
+    )
+}
+
+/// The times of parts under the method's rules, in microseconds. At most three steps for each.
+pub(crate) fn times_of<L: Ledger>(
     alloc: Global,
     found: &[Found],
     trace: &Trace,
+    method: &Method,
+    steps: &mut Steps<L>,
 ) -> Result<Vec<u64>, NoMemory>
-    requires { All (λ one. one.part.shape.apex < length trace.now.samples) found.now }
-    ensures value { IfOk result (λ v. v.items ≡ map (apex_time trace.now) found.now) }
+    requires { All (IsFound trace.now (fields_of method.now)) found.now }
+    ensures value { IfOk result (λ v. v.items ≡ map (time_of trace.now (fields_of method.now)) found.now) }
     ensures len { IfOk result (λ v. vec_len v ≡ length found.now) }
+    ensures least { steps.old ≤ steps.new }
+    ensures most { steps.new ≤ steps.old + 3 * length found.now }
 {
-    let period = trace.period();
     let mut times = Vec::with_capacity(alloc, found.len())?;
     for one in found {
-        times.push(u64::from(one.part.shape.apex) * period)?;
+        times.push(time_of(*one, trace, method, steps))?;
     }
     Ok(times)
 }

@@ -1,12 +1,17 @@
-ghost use Rattle.std.specs.Prelude.{◌≡◌, ◌+◌, ◌-◌, ◌*◌, ◌^◌, ◌<◌, ◌≤◌, IfOk, IfSome, All, Option, length, pos, ◌<ℤ◌, ◌&&◌, not, int_lt, unsigned_abs};
-ghost use Rattle.cds_integrate.specs.Peaks.{boundary_height, is_valley_between, neighbour, IsValley, IsPeak, ArePeaks, component_of};
+//! The peaks of a row: what it says of each part that isn't rejected.
+ghost use Rattle.std.specs.Prelude.{◌≡◌, ◌+◌, ◌-◌, ◌*◌, ◌^◌, ◌<◌, ◌≤◌, IfOk, IfSome, All, Option, length, map, pos};
+ghost use Rattle.std.specs.Prelude.{◌<ℤ◌, ◌&&◌, not, int_lt, unsigned_abs};
+ghost use Rattle.cds_rules.specs.Fields.{fields_of};
+ghost use Rattle.cds_base.specs.declared.peak.TheConstants.{HEIGHT_LIMIT};
+ghost use Rattle.cds_trace.specs.Heights.{span};
+ghost use Rattle.cds_integrate.specs.Peaks.{boundary_height, is_valley_between, neighbour, IsValley, IsPeak, ArePeaks};
+ghost use Rattle.cds_integrate.specs.Peaks.{component_of, time_of};
 ghost use Rattle.cds_integrate.specs.Row.{IsSound, StandsIn};
 ghost use Rattle.cds_integrate.specs.Standing.{IsMeasured, IsFound, widths};
 
 use crate::found::Found;
 use crate::measures::{Measured, area_ratio, height_ratio, is_rejected, reported_area};
 use crate::naming::component_of;
-use crate::shapes::Shape;
 use cds_area::height;
 use cds_base::{NoMemory, Peak, Ratio, Steps};
 use cds_figures::crossings;
@@ -22,11 +27,31 @@ const HALF: u8 = 10;
 /// One twentieth of the height.
 const TWENTIETH: u8 = 1;
 
-/// Whether neither of two parts is a rider.
-fn are_plain(before: Shape, shape: Shape) -> bool
-    ensures { result ≡ (not before.rider && not shape.rider) }
+/// Whether a part is a rider.
+fn is_rider(part: Measured) -> bool
+    ensures { result ≡ part.shape.rider }
 {
-    !before.rider && !shape.rider
+    let shape = part.shape;
+    shape.rider
+}
+
+/// Whether neither of two parts is a rider.
+fn are_plain(before: Measured, part: Measured) -> bool
+    ensures { result ≡ (not before.shape.rider && not part.shape.rider) }
+{
+    !is_rider(before) && !is_rider(part)
+}
+
+/// The height of a part's left end above its line. One step.
+fn boundary<L: Ledger>(part: Measured, trace: &Trace, steps: &mut Steps<L>) -> Ratio
+    requires { IsMeasured trace.now part }
+    ensures num { result.num ≡ boundary_height trace.now part }
+    ensures den { result.den ≡ span part.shape.line }
+    ensures small { unsigned_abs result.num < HEIGHT_LIMIT }
+    ensures counted { steps.new ≡ steps.old + 1 }
+{
+    let shape = part.shape;
+    height(shape.start, &shape.line, trace, steps)
 }
 
 /// Whether a height is above the line.
@@ -46,11 +71,11 @@ fn is_valley_between(
 ) -> bool
     requires before { IsMeasured trace.now before }
     requires boundary { boundary ≡ boundary_height trace.now part }
-    ensures { result ≡ is_valley_between trace.now method.now before part }
+    ensures { result ≡ is_valley_between trace.now (fields_of method.now) before part }
 {
     let kept = !is_rejected(before, trace, method);
     let above = is_above(boundary);
-    are_plain(before.shape, part.shape) && (kept && above)
+    are_plain(before, part) && (kept && above)
 }
 
 /// The heights of the part before a part and of the boundary of the two, where that is a valley. One step.
@@ -63,12 +88,12 @@ fn valley_behind<L: Ledger>(
 ) -> Option<(Ratio, Ratio)>
     requires before { IsMeasured trace.now before }
     requires part { IsMeasured trace.now part }
-    ensures value { IsValley trace.now part (neighbour trace.now method.now (Option.Some before) part) result }
-    ensures small { IfSome result (λ heights. unsigned_abs heights.0.num < 2 ^ 60) }
-    ensures boundary { IfSome result (λ heights. (unsigned_abs heights.1.num < 2 ^ 60) × (pos 0 <ℤ heights.1.num)) }
+    ensures value { IsValley trace.now part (neighbour trace.now (fields_of method.now) (Option.Some before) part) result }
+    ensures small { IfSome result (λ heights. unsigned_abs heights.0.num < HEIGHT_LIMIT) }
+    ensures boundary { IfSome result (λ heights. (unsigned_abs heights.1.num < HEIGHT_LIMIT) × (pos 0 <ℤ heights.1.num)) }
     ensures counted { steps.new ≡ steps.old + 1 }
 {
-    let boundary = height(part.shape.start, &part.shape.line, trace, steps);
+    let boundary = boundary(part, trace, steps);
     if is_valley_between(before, part, boundary.num, trace, method) {
         Some((height_ratio(before), boundary))
     } else {
@@ -83,10 +108,10 @@ fn valley_of<L: Ledger>(
     method: &Method,
     steps: &mut Steps<L>,
 ) -> Option<(Ratio, Ratio)>
-    requires { IsFound trace.now method.now found }
-    ensures value { IsValley trace.now found.part (neighbour trace.now method.now found.before found.part) result }
-    ensures small { IfSome result (λ heights. unsigned_abs heights.0.num < 2 ^ 60) }
-    ensures boundary { IfSome result (λ heights. (unsigned_abs heights.1.num < 2 ^ 60) × (pos 0 <ℤ heights.1.num)) }
+    requires { IsFound trace.now (fields_of method.now) found }
+    ensures value { IsValley trace.now found.part (neighbour trace.now (fields_of method.now) found.before found.part) result }
+    ensures small { IfSome result (λ heights. unsigned_abs heights.0.num < HEIGHT_LIMIT) }
+    ensures boundary { IfSome result (λ heights. (unsigned_abs heights.1.num < HEIGHT_LIMIT) × (pos 0 <ℤ heights.1.num)) }
     ensures least { steps.old ≤ steps.new }
     ensures most { steps.new ≤ steps.old + 1 }
 {
@@ -96,17 +121,20 @@ fn valley_of<L: Ledger>(
     valley_behind(before, found.part, trace, method, steps)
 }
 
-/// What a row says of a part that isn't rejected, and of the component that it is named. At most five steps for each of
+/// What a row says of a part that isn't rejected, of its time, and of the component that it is named. At most five
+/// steps for each of
 /// its samples but one.
 fn peak_of<L: Ledger>(
     found: Found,
+    time_us: u64,
     component: Option<u32>,
     trace: &Trace,
     method: &Method,
     steps: &mut Steps<L>,
 ) -> Peak
-    requires { IsFound trace.now method.now found }
-    ensures value { IsPeak trace.now method.now component found result }
+    requires found { IsFound trace.now (fields_of method.now) found }
+    requires time { time_us ≡ time_of trace.now (fields_of method.now) found }
+    ensures value { IsPeak trace.now (fields_of method.now) component found result }
     ensures sound { IsSound result }
     ensures stands { StandsIn trace.now result }
     ensures least { steps.old ≤ steps.new }
@@ -140,6 +168,7 @@ fn peak_of<L: Ledger>(
         end: shape.end,
         rider: shape.rider,
         line: shape.line,
+        time_us,
         area: area_ratio(part),
         units: reported_area(part, trace),
         height: height_ratio(part),
@@ -150,19 +179,22 @@ fn peak_of<L: Ledger>(
     }
 }
 
-/// The peaks of a row, named; the first has the number 1. At most five steps for each sample of their ranges but one.
+/// The peaks of a row with these times, named; the first has the number 1. At most five steps for each sample of their
+/// ranges but one.
 pub(crate) fn peaks_of<L: Ledger>(
     alloc: Global,
     found: &[Found],
+    times: &[u64],
     names: &Names,
     trace: &Trace,
     method: &Method,
     steps: &mut Steps<L>,
 ) -> Result<Vec<Peak>, NoMemory>
-    requires found { All (IsFound trace.now method.now) found.now }
+    requires found { All (IsFound trace.now (fields_of method.now)) found.now }
     requires few { length found.now < 2 ^ 32 }
+    requires times { times.now ≡ map (time_of trace.now (fields_of method.now)) found.now }
     requires names { length names.now ≡ length method.now.components }
-    ensures value { IfOk result (λ v. ArePeaks trace.now method.now names.now 1 found.now v.items) }
+    ensures value { IfOk result (λ v. ArePeaks trace.now (fields_of method.now) names.now 1 found.now v.items) }
     ensures sound { IfOk result (λ v. All IsSound v.items) }
     ensures stand { IfOk result (λ v. All (StandsIn trace.now) v.items) }
     ensures least { steps.old ≤ steps.new }
@@ -172,7 +204,7 @@ pub(crate) fn peaks_of<L: Ledger>(
     let mut peaks = Vec::with_capacity(alloc, found.len())?;
     for place in 0..found.len() {
         let component = component_of(names, count, place as u32 + 1);
-        peaks.push(peak_of(found[place], component, trace, method, steps))?;
+        peaks.push(peak_of(found[place], times[place], component, trace, method, steps))?;
     }
     Ok(peaks)
 }

@@ -1,4 +1,6 @@
-ghost use Rattle.std.specs.Prelude.{◌≡◌, ◌+◌, ◌-◌, ◌*◌, ◌==◌, ◌<◌, ◌≤◌, ◌++◌, ℕ, true, false, All, IfOk, IfSome, IfNone, length, map};
+//! The parts of a cluster with the lines below them.
+ghost use Rattle.std.specs.Prelude.{◌≡◌, ◌+◌, ◌-◌, ◌*◌, ◌==◌, ◌<◌, ◌≤◌, ◌++◌, ℕ, true, false, All, IfOk, IfSome};
+ghost use Rattle.std.specs.Prelude.{IfNone, length, map};
 ghost use Rattle.std.specs.List.{list_any};
 ghost use Rattle.std.specs.Vec.{vec_len};
 ghost use Rattle.cds_baseline.specs.Cluster.{is_valley};
@@ -8,18 +10,20 @@ ghost use Rattle.cds_baseline.specs.Tangent.{tangent_sample};
 ghost use Rattle.cds_events.specs.Standing.{IsPart, IsCluster};
 ghost use Rattle.cds_integrate.specs.Lines.{first_behind};
 ghost use Rattle.cds_integrate.specs.Standing.{IsOver, IsShape, InRow};
-ghost use Rattle.cds_integrate.specs.Shapes.{covers, skims, is_covered, is_skimmed, is_rider, rider_shape, plain_shape, shape_of, shapes_of};
+ghost use Rattle.cds_integrate.specs.Shapes.{covers, skims, is_covered, is_skimmed, is_rider, rider_shape, plain_shape};
+ghost use Rattle.cds_integrate.specs.Shapes.{shape_of, shapes_of};
 
-use crate::lines::{chord, first_behind, last_up_to};
-use cds_base::{Boundary, Cluster, Event, Line, NoMemory, Part, Steps, is_in_window};
+use crate::lines::{first_behind, last_up_to};
+use cds_base::{Cluster, Cut, Event, Line, NoMemory, Part, Steps, is_in_window};
 use cds_baseline::{nodes, tangent};
 use cds_rules::Method;
-use cds_trace::Trace;
+use cds_trace::{Trace, chord};
 use std::alloc::Global;
+use std::marker::Model;
 use std::sync::ledger::Ledger;
 
 /// A part with the line below it: its range and apex, where its part of the cluster ends (`reach`), and whether it is
-/// skimmed off by a tangent.
+/// skimmed off by a tangent. Seen as a plain record.
 #[derive(Clone, Copy, Debug)]
 pub(crate) struct Shape {
     pub start: u32,
@@ -28,6 +32,30 @@ pub(crate) struct Shape {
     pub reach: u32,
     pub rider: bool,
     pub line: Line,
+}
+
+impl Model for Shape {
+    ghost use Rattle.cds_integrate.specs.Shapes.{Shape as Seen};
+
+    ghost Value = { Seen };
+
+    ghost view = { λ s. record {
+      start = s.start;
+      apex = s.apex;
+      end = s.end;
+      reach = s.reach;
+      rider = s.rider;
+      line = s.line;
+    } };
+
+    ghost inverse = { λ s. record {
+      start = s.start;
+      apex = s.apex;
+      end = s.end;
+      reach = s.reach;
+      rider = s.rider;
+      line = s.line;
+    } };
 }
 
 /// Whether the event makes a valley at this time a node.
@@ -68,7 +96,7 @@ fn skims_any(time_us: u64, events: &[Event]) -> bool
 fn is_valley(part: Part) -> bool
     ensures { result ≡ is_valley part.left }
 {
-    matches!(part.left, Boundary::Valley)
+    matches!(part.left, Cut::Valley)
 }
 
 /// Whether a sample is one of these nodes.
@@ -107,7 +135,8 @@ fn is_skimmed(part: Part, nodes: &[u32], trace: &Trace, method: &Method, manual:
     is_valley(part) && (skimmed && !is_node(part.start, nodes))
 }
 
-/// The sample at which the tangent of a rider ends; None where the part is none. At most one step for each of its samples.
+/// The sample at which the tangent of a rider ends; None where the part is none. At most one step for each of its
+/// samples.
 fn rider_end<L: Ledger>(
     part: Part,
     nodes: &[u32],
@@ -122,7 +151,8 @@ fn rider_end<L: Ledger>(
     ensures plain { IfNone result (is_rider trace.now (method.now.events ++ manual.now) nodes.now part ≡ false) }
     ensures end { IfSome result (λ end. end ≡ tangent_sample trace.now part.start part.end) }
     ensures high { IfSome result (λ end. (part.apex < end) × (part.start < end) × (end ≤ part.end)) }
-    ensures clear { IfSome result (λ end. (k : ℕ) → part.start ≤ k → k ≤ end → is_over trace.now part.start end k ≡ true) }
+    ensures clear { IfSome result (λ end. (k : ℕ) → part.start ≤ k → k ≤ end → is_over trace.now part.start end k
+        ≡ true) }
     ensures least { steps.old ≤ steps.new }
     ensures most { steps.new + part.start ≤ steps.old + part.end + 1 }
 {
@@ -216,7 +246,8 @@ fn covered_marks(
     manual: &[Event],
 ) -> Result<Vec<bool>, NoMemory>
     requires { All (λ part. part.start < length trace.now.samples) parts.now }
-    ensures marks { IfOk result (λ v. v.items ≡ map (is_covered trace.now (method.now.events ++ manual.now)) parts.now) }
+    ensures marks { IfOk result (λ v. v.items
+        ≡ map (is_covered trace.now (method.now.events ++ manual.now)) parts.now) }
     ensures len { IfOk result (λ v. vec_len v ≡ length parts.now) }
 {
     let mut marks = Vec::with_capacity(alloc, parts.len())?;
@@ -237,7 +268,8 @@ fn shapes_over<L: Ledger>(
     steps: &mut Steps<L>,
 ) -> Result<Vec<Shape>, NoMemory>
     requires { All (IsOver trace.now nodes.now) parts.now }
-    ensures value { IfOk result (λ v. v.items ≡ map (shape_of trace.now (method.now.events ++ manual.now) nodes.now) parts.now) }
+    ensures value { IfOk result (λ v. v.items
+        ≡ map (shape_of trace.now (method.now.events ++ manual.now) nodes.now) parts.now) }
     ensures shapes { IfOk result (λ v. All (IsShape trace.now) v.items) }
     ensures least { steps.old ≤ steps.new }
     ensures most { (start end : ℕ) → Tiles start parts.now end → steps.new + 4 * start ≤ steps.old + 4 * end }

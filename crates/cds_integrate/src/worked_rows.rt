@@ -65,8 +65,10 @@ pub(crate) const SKIM_AT_7: Event = Event::Skim {
     to: 7001,
 };
 
-/// A peak that is wanted: start, apex and end; the ends of its line, and whether it is a rider; its area in count samples;
-/// its height as a fraction; its crossings at half height and at one twentieth; the heights of its valley; its component.
+/// A peak that is wanted: start, apex and end; the ends of its line, and whether it is a rider; its area in count
+/// samples;
+/// its height as a fraction; its crossings at half height and at one twentieth; the heights of its valley; its
+/// component.
 pub(crate) struct Wanted {
     pub range: (u32, u32, u32),
     pub line: (u32, u32),
@@ -625,7 +627,8 @@ pub(crate) const SIZES: [SizedRow; 8] = [
         ],
         &[((2, 5, 6), false, 50, 30), ((7, 9, 11), false, 95, 45)],
     ),
-    // The tangent falls from 20 at sample 7 to -20 at sample 11, and the rider's part ends with sample 12: 290 under the
+    // The tangent falls from 20 at sample 7 to -20 at sample 11, and the rider's part ends with sample 12: 290 under
+    // the
     // signal in the whole, less 140 of the rider.
     (
         "the area of a parent goes on to the end of its rider's part",

@@ -8,4 +8,5 @@ pub loop-component-preserved : goal.loop-component-preserved
 loop-component-preserved c =
     let fails : gives c.args.number (number_of c.args.names.now c.loop-component.component) ≡ false =
     ap (gives c.args.number) (sym c.of.ensures) ∙ (sym c.gives.ensures ∙ c.if-gives.false) in
-    sym (first-skip (λ component. gives c.args.number (number_of c.args.names.now component)) c.loop-component.component (c.args.count + 1) c.loop-component-test.true fails) ∙ c.loop-component.invariant
+    sym (first-skip (λ component. gives c.args.number (number_of c.args.names.now component))
+    c.loop-component.component (c.args.count + 1) c.loop-component-test.true fails) ∙ c.loop-component.invariant

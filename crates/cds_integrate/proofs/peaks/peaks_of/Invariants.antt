@@ -1,4 +1,5 @@
 use Rattle.std.proofs.Common.{◌+◌, ◌*◌, ◌≤◌, take, All}
+use Rattle.cds_rules.specs.Fields.{fields_of}
 use Rattle.cds_integrate.specs.Peaks.{ArePeaks}
 use Rattle.cds_integrate.specs.Row.{IsSound, StandsIn}
 use Rattle.cds_integrate.specs.Standing.{widths}
@@ -6,7 +7,7 @@ use Rattle.cds_integrate.proofs.peaks.peaks_of.Given as goal
 
 abbrev pub invariant-loop-place : goal.invariant-loop-place
 invariant-loop-place g l = record {
-  peaks : ArePeaks l.trace l.method l.names 1 (take l.place l.found) l.peaks.items;
+  peaks : ArePeaks l.trace (fields_of l.method) l.names 1 (take l.place l.found) l.peaks.items;
   sound : All IsSound l.peaks.items;
   stand : All (StandsIn l.trace) l.peaks.items;
   least : l.fn.steps ≤ l.steps;

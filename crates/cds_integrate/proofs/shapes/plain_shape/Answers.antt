@@ -11,4 +11,5 @@ chord-requires-clause-from g c =
 pub returns-clause-shape : goal.returns-clause-shape
 returns-clause-shape g c =
     rw (c.chord.ensures.value, c.last_up_to-from.ensures, c.first_behind-to.ensures)
-    (plain-is c.args.trace.now c.args.nodes.now c.args.part c.len-samples.ensures.trace c.requires.part c.requires.order c.requires.clear c.requires.within)
+    (plain-is c.args.trace.now c.args.nodes.now c.args.part c.len-samples.ensures.trace c.requires.part
+    c.requires.order c.requires.clear c.requires.within)

@@ -14,7 +14,9 @@ loop-part-preserved g c =
     let pushed : c.push.new.self.items ≡ c.loop-part.shapes.items ++ c.shape_of.result ∷ [] = search rules in
     record {
       items = grind (arith, common_steps);
-      shapes = rw pushed (All-append (IsShape c.args.trace.now) c.loop-part.shapes.items (c.shape_of.result ∷ []) c.loop-part.invariant.shapes (one-all (IsShape c.args.trace.now) c.shape_of.result c.shape_of.ensures.shape));
+      shapes = rw pushed (All-append (IsShape c.args.trace.now) c.loop-part.shapes.items
+          (c.shape_of.result ∷ []) c.loop-part.invariant.shapes
+          (one-all (IsShape c.args.trace.now) c.shape_of.result c.shape_of.ensures.shape));
       least = omega (arith, c.loop-part.invariant.least, c.shape_of.ensures.least);
       counted = λ start end tiled.
           let at = tiles-at start end i parts no_part tiled c.loop-part-test.true in
