@@ -6,8 +6,7 @@ use Rattle.cds_base.specs.declared.peak.RawPeak.{RawPeak}
 use Rattle.cds_events.specs.Pieces.{Piece}
 
 -- a raw peak where it stands among the forced pieces: the samples at which it starts, has its apex and ends, and
--- whether it
--- belongs to a forced piece
+-- whether it belongs to a forced piece
 pub record Placed : Type 0 where
   pub start : ℕ
   pub apex : ℕ
@@ -19,9 +18,8 @@ abbrev pub belongs : RawPeak → Piece → Bool
 belongs peak piece = nat_lt piece.start peak.apex && nat_lt peak.apex piece.end
 
 -- what a forced piece leaves of a raw peak outside of it: an end behind the piece's start is lowered to that start
--- where
--- the apex doesn't lie behind it, and a start before the piece's end is raised to that end where the apex doesn't lie
--- before it
+-- where the apex doesn't lie behind it, and a start before the piece's end is raised to that end where the apex doesn't
+-- lie before it
 abbrev pub trimmed : RawPeak → Piece → RawPeak
 trimmed peak piece = record {
   start = if nat_le piece.end peak.apex then max peak.start piece.end else peak.start;

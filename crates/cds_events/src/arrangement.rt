@@ -24,29 +24,23 @@ use std::sync::ledger::Ledger;
 /// method's events. Samples count from the start of the trace; the sample of a time is the last one not behind it.
 ///
 /// A baseline event forces one straight baseline from the sample of its start to that of its end, or to the trace's
-/// last
-/// one. It has effect where its end lies behind its start and it shares at most an end with each earlier one that has
-/// effect. The raw peaks whose apex lies strictly inside are its cluster, from its start to its end; without any it has
-/// none. Of each other raw peak it takes what lies on its side: an end is lowered to its start where the apex doesn't
-/// lie
-/// behind that, and a start is raised to its end where the apex doesn't lie before that. What then has its apex at an
-/// end
-/// of its range is left out.
+/// last one. It has effect where its end lies behind its start and it shares at most an end with each earlier one that
+/// has effect. The raw peaks whose apex lies strictly inside are its cluster, from its start to its end; without any it
+/// has none. Of each other raw peak it takes what lies on its side: an end is lowered to its start where the apex
+/// doesn't lie behind that, and a start is raised to its end where the apex doesn't lie before that. What then has its
+/// apex at an end of its range is left out.
 ///
 /// Of the others, neighbours are fused where the later starts at most `fuse` bunches behind the end of the earlier and
-/// no
-/// forced piece with effect lies between them. A maximal run of fused peaks is a cluster. The valley of two neighbours
-/// in
-/// a cluster is the first least sample strictly between their apexes; valleys cut a cluster into its parts, one for
-/// each
-/// peak. Then each drop event, in the order of the list, cuts the part that has its sample strictly inside and its apex
-/// elsewhere. The piece with the apex keeps it, and the other's apex is its first greatest sample.
+/// no forced piece with effect lies between them. A maximal run of fused peaks is a cluster. The valley of two
+/// neighbours in a cluster is the first least sample strictly between their apexes; valleys cut a cluster into its
+/// parts, one for each peak. Then each drop event, in the order of the list, cuts the part that has its sample strictly
+/// inside and its apex elsewhere. The piece with the apex keeps it, and the other's apex is its first greatest sample.
 ///
 /// The raw peaks must stand one after the other in the trace, the apex of each strictly inside its range and its first
 /// greatest sample, as those that the detector finds do. The answer is the clusters in the order of their ranges, which
 /// share ends at most, with no more parts in all than raw peaks and drop events. Want of memory is the one other
-/// answer.
-/// At most 3 steps for each sample of the trace, however many events there are. The rules are this project's own.
+/// answer. At most 3 steps for each sample of the trace, however many events there are. The rules are this project's
+/// own.
 pub fn arrange<L: Ledger>(
     alloc: Global,
     raw: &[RawPeak],

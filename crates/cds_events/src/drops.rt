@@ -167,8 +167,7 @@ fn cut_part<L: Ledger>(
 }
 
 /// Puts what the drop lines leave of one part behind these pieces. No step where none has the part on both of its
-/// sides,
-/// and else at most two for each of its samples but one.
+/// sides, and else at most two for each of its samples but one.
 fn add_pieces<L: Ledger>(
     alloc: Global,
     pieces: &mut Vec<Part>,

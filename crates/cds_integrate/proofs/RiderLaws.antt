@@ -21,8 +21,7 @@ exact-quotient (pos n) s some least =
 exact-quotient (negsuc n) s some least = absurd (omega (arith, ints))
 
 -- twice the area over the whole of a chord, by a formula: its samples but the last and but the first, together, less
--- the
--- levels of its ends for each sample from the one to the other
+-- the levels of its ends for each sample from the one to the other
 abbrev pub twice_whole : Signal → Line → ℤ
 twice_whole signal line =
     let sum = sum_between signal line.from (line.to + 1) in

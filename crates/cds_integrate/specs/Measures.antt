@@ -1,6 +1,5 @@
 -- The exact areas and heights of parts, and which parts are rejected. This project's own rules. An area stands times
--- twice
--- the span of the part's line, a height times its span, so that both are whole numbers.
+-- twice the span of the part's line, a height times its span, so that both are whole numbers.
 use Rattle.std.specs.Prelude.{ℕ, ◌*◌, ◌/◌, ◌||◌, Bool, List, [], ◌∷◌, ℤ, pos, ◌+ℤ◌, ◌-ℤ◌, ◌*ℤ◌, nat_abs, int_le, int_lt}
 use Rattle.std.specs.Prelude.{nat_lt, if◌then◌else◌}
 use Rattle.std.specs.List.{fold}

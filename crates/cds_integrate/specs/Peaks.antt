@@ -39,8 +39,7 @@ abbrev pub boundary_height : Signal → Measured → ℤ
 boundary_height signal part = height_by_span signal part.shape.line part.shape.start
 
 -- the boundary of two parts in a row is a valley of the second one: neither is a rider, the first isn't rejected, and
--- the
--- boundary lies above the line
+-- the boundary lies above the line
 abbrev pub is_valley_between : Signal → Fields → Measured → Measured → Bool
 is_valley_between signal fields before part =
     (not before.shape.rider && not part.shape.rider)
@@ -59,6 +58,10 @@ IsValley signal part (Some before) None = ⊥
 IsValley signal part (Some before) (Some heights) =
     IsRatio heights.0 before.height (span before.shape.line)
     × IsRatio heights.1 (boundary_height signal part) (span part.shape.line)
+
+-- the same of a part and of the one before it in its cluster
+abbrev pub IsValleyOf : Signal → Fields → Option Measured → Measured → Option (Ratio × Ratio) → Type 0
+IsValleyOf signal fields before part heights = IsValley signal part (neighbour signal fields before part) heights
 
 -- the crossings of a peak at so many twentieths of its height
 abbrev pub crossings_at : Signal → Shape → ℕ → Option (ℕ × ℕ)
@@ -87,7 +90,7 @@ pub record IsPeak (signal : Signal) (fields : Fields) (component : Option ℕ) (
   -- where it crosses half its height and one twentieth of it
   pub half : peak.half ≡ crossings_at signal found.part.shape HALF
   pub twentieth : peak.twentieth ≡ crossings_at signal found.part.shape TWENTIETH
-  pub valley : IsValley signal found.part (neighbour signal fields found.before found.part) peak.valley
+  pub valley : IsValleyOf signal fields found.before found.part peak.valley
   pub component_is : peak.component ≡ component
 
 -- what a component names is the peak of this number

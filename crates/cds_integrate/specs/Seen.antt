@@ -1,6 +1,5 @@
 -- A row in plain numbers, with its ratios in lowest terms: a function of the signal, of what the method states and of
--- the
--- row's events. This project's own rules.
+-- the row's events. This project's own rules.
 use Rattle.std.specs.Prelude.{ℕ, suc, ◌*◌, Bool, List, [], ◌∷◌, map, length, Option, option_map, nat_le, if◌then◌else◌}
 use Rattle.cds_base.specs.declared.event.Event.{Event}
 use Rattle.cds_base.specs.declared.peak.Line.{Line}

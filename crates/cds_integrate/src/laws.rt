@@ -14,8 +14,8 @@ pub fn the_levels()
 {}
 
 /// Between each two neighbouring nodes of each cluster's baseline the exact areas of all parts of a row whose ranges
-/// lie
-/// there, riders and rejected ones included, are together the area over the whole line from the one node to the other.
+/// lie there, riders and rejected ones included, are together the area over the whole line from the one node to the
+/// other.
 pub fn areas_are_conserved()
     ensures { (signal : Signal) (fields : Fields) (manual : List Event) → IsTrace signal →
         Conserves signal fields manual }
@@ -29,11 +29,9 @@ pub fn areas_of_peaks_are_conserved()
 {}
 
 /// Each peak of a row ends within its trace, its apex is a crest where it lies strictly inside, its time isn't behind
-/// the
-/// last sample, its left crossings lie before the apex, and its right ones not behind the last sample. Its component is
-/// one
-/// of the method's, no two peaks are of one component, and there are at most as many peaks as a row may have raw peaks,
-/// and one for each drop event.
+/// the last sample, its left crossings lie before the apex, and its right ones not behind the last sample. Its
+/// component is one of the method's, no two peaks are of one component, and there are at most as many peaks as a row
+/// may have raw peaks, and one for each drop event.
 pub fn peaks_stand()
     ensures stand { (signal : Signal) (fields : Fields) (manual : List Event) (row : Answer)
         → IsTrace signal → IsRow signal fields manual row → All (StandsIn signal) (peaks_in row) }
@@ -51,8 +49,7 @@ pub fn first_rules_take_the_apex_sample()
 {}
 
 /// Every answer that may be the row of a trace, shown in plain numbers with its ratios in lowest terms, is the one that
-/// the
-/// signal, the fields and the events give.
+/// the signal, the fields and the events give.
 pub fn rows_are_determined()
     ensures { (signal : Signal) (fields : Fields) (manual : List Event) (row : Answer)
         → IsTrace signal → IsRow signal fields manual row → seen row ≡ row_seen signal fields manual }

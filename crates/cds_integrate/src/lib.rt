@@ -2,10 +2,9 @@
 //!
 //! Begin at [`row`]: it is the only call that makes a [`RowPart`]. Over the definitions alone, [`rows_are_determined`]
 //! gives the row as a function of plain values, [`areas_are_conserved`] and [`areas_of_peaks_are_conserved`] say what
-//! holds
-//! of the areas of each row, [`peaks_stand`] where its peaks stand in the trace, and
-//! [`first_rules_take_the_apex_sample`]
-//! what their times are under rules 1. [`the_levels`] pins the levels at which widths are taken.
+//! holds of the areas of each row, [`peaks_stand`] where its peaks stand in the trace, and
+//! [`first_rules_take_the_apex_sample`] what their times are under rules 1. [`the_levels`] pins the levels at which
+//! widths are taken.
 #![tactic(auto)]
 
 mod found;

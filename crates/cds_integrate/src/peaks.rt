@@ -4,7 +4,7 @@ ghost use Rattle.std.specs.Prelude.{◌<ℤ◌, ◌&&◌, not, int_lt, unsigned_
 ghost use Rattle.cds_rules.specs.Fields.{fields_of};
 ghost use Rattle.cds_base.specs.declared.peak.TheConstants.{HEIGHT_LIMIT};
 ghost use Rattle.cds_trace.specs.Heights.{span};
-ghost use Rattle.cds_integrate.specs.Peaks.{boundary_height, is_valley_between, neighbour, IsValley, IsPeak, ArePeaks};
+ghost use Rattle.cds_integrate.specs.Peaks.{boundary_height, is_valley_between, IsValleyOf, IsPeak, ArePeaks};
 ghost use Rattle.cds_integrate.specs.Peaks.{component_of, time_of};
 ghost use Rattle.cds_integrate.specs.Row.{IsSound, StandsIn};
 ghost use Rattle.cds_integrate.specs.Standing.{IsMeasured, IsFound, widths};
@@ -88,9 +88,10 @@ fn valley_behind<L: Ledger>(
 ) -> Option<(Ratio, Ratio)>
     requires before { IsMeasured trace.now before }
     requires part { IsMeasured trace.now part }
-    ensures value { IsValley trace.now part (neighbour trace.now (fields_of method.now) (Option.Some before) part) result }
+    ensures value { IsValleyOf trace.now (fields_of method.now) (Option.Some before) part result }
     ensures small { IfSome result (λ heights. unsigned_abs heights.0.num < HEIGHT_LIMIT) }
-    ensures boundary { IfSome result (λ heights. (unsigned_abs heights.1.num < HEIGHT_LIMIT) × (pos 0 <ℤ heights.1.num)) }
+    ensures boundary { IfSome result (λ heights.
+        (unsigned_abs heights.1.num < HEIGHT_LIMIT) × (pos 0 <ℤ heights.1.num)) }
     ensures counted { steps.new ≡ steps.old + 1 }
 {
     let boundary = boundary(part, trace, steps);
@@ -109,9 +110,10 @@ fn valley_of<L: Ledger>(
     steps: &mut Steps<L>,
 ) -> Option<(Ratio, Ratio)>
     requires { IsFound trace.now (fields_of method.now) found }
-    ensures value { IsValley trace.now found.part (neighbour trace.now (fields_of method.now) found.before found.part) result }
+    ensures value { IsValleyOf trace.now (fields_of method.now) found.before found.part result }
     ensures small { IfSome result (λ heights. unsigned_abs heights.0.num < HEIGHT_LIMIT) }
-    ensures boundary { IfSome result (λ heights. (unsigned_abs heights.1.num < HEIGHT_LIMIT) × (pos 0 <ℤ heights.1.num)) }
+    ensures boundary { IfSome result (λ heights.
+        (unsigned_abs heights.1.num < HEIGHT_LIMIT) × (pos 0 <ℤ heights.1.num)) }
     ensures least { steps.old ≤ steps.new }
     ensures most { steps.new ≤ steps.old + 1 }
 {
@@ -122,8 +124,7 @@ fn valley_of<L: Ledger>(
 }
 
 /// What a row says of a part that isn't rejected, of its time, and of the component that it is named. At most five
-/// steps for each of
-/// its samples but one.
+/// steps for each of its samples but one.
 fn peak_of<L: Ledger>(
     found: Found,
     time_us: u64,

@@ -55,8 +55,7 @@ impl RowPart {
     /// The peaks, in the order of their ranges; none where there are too many raw peaks. The apex of each lies in its
     /// range, its time is at most `LAST_TIME_US`, its area, its height and the height of its valley's boundary are
     /// positive, its reported area is below `AREA_LIMIT`, the numerators of its height and of both heights of its
-    /// valley
-    /// are below `HEIGHT_LIMIT`, and its left crossings lie before its right ones.
+    /// valley are below `HEIGHT_LIMIT`, and its left crossings lie before its right ones.
     pub fn peaks(&self) -> &[Peak]
         ensures value { result.now ≡ peaks_in self.now }
         ensures sound { All IsSound result.now }

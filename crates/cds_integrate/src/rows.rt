@@ -32,38 +32,28 @@ use std::sync::ledger::Ledger;
 ///
 /// The raw peaks are arranged to clusters. The baseline of a cluster is straight between its nodes. The part behind a
 /// valley in the window of a skim event, where the valley is no node, is skimmed off by the tangent from the valley
-/// where
-/// that ends behind the part's apex: it is a rider, and its area is taken out of the nearest earlier part that is none.
-/// A part whose exact area or height isn't positive, whose reported area is below `min_area` or whose height is below
-/// `min_height` is rejected. The others are the row's peaks, numbered from 1 in the order of their ranges, each with
-/// its
-/// time under the method's rules, its exact area and height, its crossings at half height and at one twentieth of it,
-/// and
-/// the heights for its peak to valley ratio. Components are numbered from 1; they name the peaks, over the peaks'
-/// times, by
-/// the one naming that no wanted pair blocks.
+/// where that ends behind the part's apex: it is a rider, and its area is taken out of the nearest earlier part that is
+/// none. A part whose exact area or height isn't positive, whose reported area is below `min_area` or whose height is
+/// below `min_height` is rejected. The others are the row's peaks, numbered from 1 in the order of their ranges, each
+/// with its time under the method's rules, its exact area and height, its crossings at half height and at one twentieth
+/// of it, and the heights for its peak to valley ratio. Components are numbered from 1; they name the peaks, over the
+/// peaks' times, by the one naming that no wanted pair blocks.
 ///
 /// Areas are in count samples and heights in counts, both exact. Times and crossings are in microseconds from the start
-/// of
-/// the trace, reported areas in count milliseconds, all rounded down. The area of a part with riders goes on over its
-/// line to
-/// the end of the last rider's part, without the areas of its riders. Crossings are None where the signal stays above
-/// their level up to an end of the peak's range. The heights of the valley are None where no part of the cluster lies
-/// before the peak, where that part is rejected, where one of the two is a rider, and where the boundary of the two
-/// doesn't
-/// lie above the line.
+/// of the trace, reported areas in count milliseconds, all rounded down. The area of a part with riders goes on over
+/// its line to the end of the last rider's part, without the areas of its riders. Crossings are None where the signal
+/// stays above their level up to an end of the peak's range. The heights of the valley are None where no part of the
+/// cluster lies before the peak, where that part is rejected, where one of the two is a rider, and where the boundary
+/// of the two doesn't lie above the line.
 ///
 /// Over each baseline line between two neighbouring nodes the exact areas of all parts whose ranges lie there, riders
-/// and
-/// rejected ones included, are together the area over the whole line. So where none of them is rejected, the areas of
-/// the
-/// peaks there are together the same.
+/// and rejected ones included, are together the area over the whole line. So where none of them is rejected, the areas
+/// of the peaks there are together the same.
 ///
 /// A row has fewer peaks than its trace has samples, and at most 500 and one for each drop event. `TooMany` comes
-/// exactly
-/// where there are more than 500 raw peaks. Want of memory is the one other answer. At least one step, since sample 0
-/// is
-/// read first, and besides at most 26 for each sample of the trace, so at most 32. The rules are this project's own.
+/// exactly where there are more than 500 raw peaks. Want of memory is the one other answer. At least one step, since
+/// sample 0 is read first, and besides at most 26 for each sample of the trace, so at most 32. The rules are this
+/// project's own.
 #[tactic(auto, using(crate::proofs::PeakSums::sums))]
 pub fn row<L: Ledger>(
     alloc: Global,
@@ -97,8 +87,7 @@ pub fn row<L: Ledger>(
 }
 
 /// Puts the parts of a cluster that aren't rejected behind those found so far. At most eleven steps for each sample of
-/// the
-/// cluster but one.
+/// the cluster but one.
 fn add_found<L: Ledger>(
     alloc: Global,
     found: &mut Vec<Found>,
