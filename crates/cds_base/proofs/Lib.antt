@@ -2,3 +2,4 @@ pub mod Reading
 pub mod ToldLaws
 pub mod Doors
 pub mod SearchLaws
+pub mod NamedLaws

@@ -13,3 +13,4 @@ pub mod Search
 pub mod RatioOrder
 pub mod Answers
 pub mod Failing
+pub mod Named

@@ -16,7 +16,7 @@ pub struct Failing {
 
 impl Model for Failing {
     ghost use Rattle.cds_base.specs.Faults.{Rose};
-ghost use Rattle.cds_base.specs.Failing.{FailingState};
+    ghost use Rattle.cds_base.specs.Failing.{FailingState};
 
     ghost Value = { FailingState };
 

@@ -49,9 +49,9 @@ impl MemDoor {
     ) -> Result<MemDoor, AllocError>
         requires { All IsUnused coming.items }
         ensures { IfOk result (λ door. door ≡ record {
-            told = record { port = None; coming = map bytes_of coming.items; closed = [] };
-            pairs = 0;
-            failing = record { numbers = failing.now; calls = 0; faults = 0 };
+          told = record { port = None; coming = map bytes_of coming.items; closed = [] };
+          pairs = 0;
+          failing = record { numbers = failing.now; calls = 0; faults = 0 };
         }) }
     {
         Ok(MemDoor {

@@ -1,6 +1,7 @@
-ghost use Rattle.std.specs.Prelude.{◌≡◌, IfSome};
+ghost use Rattle.std.specs.Prelude.{◌≡◌, map, IfSome};
 ghost use Rattle.std.specs.List.{All};
 ghost use Rattle.cds_base.specs.MemDoor.{IsUnused};
+ghost use Rattle.cds_base.specs.Named.{AreRising};
 
 use super::*;
 use std::alloc::Global;
@@ -135,5 +136,39 @@ fn a_door_gives_its_connections_in_order_and_keeps_the_closed_ones(
         assert_eq!(rt; source.left(), left);
         assert_eq!(rt; sink.written(), written);
     }
+    Ok(())
+}
+
+// Puts a value under a name.
+fn put(list: &mut NamedList<u32>, name: &[u8], value: u32) -> Result<(), Fail>
+    requires { AreRising (map (λ e. e.name) list.old.entries.items) }
+    ensures { AreRising (map (λ e. e.name) list.new.entries.items) }
+{
+    let Some(name) = Name::new(name) else {
+        return Err(Fail::from("no name"));
+    };
+    let place = list.reserve(name)?;
+    list.put(place, name, value);
+    Ok(())
+}
+
+#[test]
+fn entries_stand_in_byte_order_and_each_name_once(rt: HostRuntime) -> Result<(), Fail> {
+    let mut list = NamedList::new(rt.alloc());
+    put(&mut list, b"b", 1)?;
+    put(&mut list, b"a10", 2)?;
+    put(&mut list, b"a1", 3)?;
+    put(&mut list, b"b", 4)?;
+    assert_eq!(rt; list.len(), 3);
+    let rows: [(&[u8], u32); 3] = [(b"a1", 3), (b"a10", 2), (b"b", 4)];
+    for (entry, (name, value)) in list.entries.iter().zip(rows) {
+        assert_eq!(rt; entry.name.as_bytes(), name);
+        assert_eq!(rt; entry.value, value);
+    }
+    let (Some(here), Some(absent)) = (Name::new(b"a10"), Name::new(b"a")) else {
+        return Err(Fail::from("no name"));
+    };
+    assert_eq!(rt; list.find(here), Some(&2));
+    assert_eq!(rt; list.find(absent), None);
     Ok(())
 }
