@@ -113,6 +113,11 @@ map-filter p f (x ∷ xs) = pick (p (f x)) (map-filter p f xs)
     pick true rest = ap (λ ys. f x ∷ ys) rest
     pick false rest = rest
 
+-- no names rise
+pub AreRising-none : AreRising []
+unfolding IsStrictlySortedBy
+AreRising-none = tt
+
 -- names that rise, with one in their midst that is above those before it and below those behind it
 AreRising-middle : (front : List (List ℕ)) (name : List ℕ) (back : List (List ℕ)) → AreRising front → AreRising back → All (λ n. byte_cmp n name ≡ Less) front → All (λ n. byte_cmp name n ≡ Less) back → AreRising (front ++ name ∷ back)
 unfolding IsStrictlySortedBy

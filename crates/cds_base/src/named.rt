@@ -28,7 +28,8 @@ pub struct NamedList<V> {
 impl<V: Drop> NamedList<V> {
     /// A list without entries. It takes no memory.
     pub fn new(alloc: Global) -> NamedList<V>
-        ensures { result.entries.items ≡ [] }
+        ensures empty { result.entries.items ≡ [] }
+        ensures rising { AreRising (map (λ e. e.name) result.entries.items) }
     {
         NamedList {
             entries: Vec::new(alloc),
