@@ -4,6 +4,7 @@ use Rattle.std.proofs.lemmas.List.{take-append-le, drop-append-le}
 use Rattle.std.proofs.lemmas.Bool.Decides.{nat_tests}
 use Rattle.httparse.specs.Grammar.{RequestHead}
 use Rattle.httparse.proofs.GrammarLemmas.{request_unique}
+use Rattle.cds_http.specs.declared.limits.TheConstants.{MOST_BODY_BYTES}
 use Rattle.cds_http.specs.declared.next.Fault.{Fault}
 use Rattle.cds_http.specs.declared.next.Fault.TheVariants.{Head, Truncated, LengthRequired, BodyTooLarge}
 use Rattle.std.specs.Prelude.{codes}
@@ -73,37 +74,37 @@ IsFront-size place bytes size h body = in_state (head_state bytes) refl
         let b = head_state-size bytes n at in
         (omega (arith, e, b.0), omega (arith, e, b.1))
 
-stated_fits : (place : ℕ) (values : List (List ℕ)) (body : ℕ) → stated_length place values ≡ Ok body → body ≤ 4194304
+stated_fits : (place : ℕ) (values : List (List ℕ)) (body : ℕ) → stated_length place values ≡ Ok body → body ≤ MOST_BODY_BYTES
 stated_fits place [] body is = let e : 0 ≡ body = cc in omega arith
-stated_fits place (value ∷ []) body is = by_test (is_length value) (leb (digits_value 10 value) 4194304) refl is
+stated_fits place (value ∷ []) body is = by_test (is_length value) (leb (digits_value 10 value) MOST_BODY_BYTES) refl is
   where
-    by_test : (digits fits : Bool) → leb (digits_value 10 value) 4194304 ≡ fits
-        → cond digits (cond fits (Ok (digits_value 10 value)) (Err BodyTooLarge)) (Err (Head place)) ≡ Ok body → body ≤ 4194304
+    by_test : (digits fits : Bool) → leb (digits_value 10 value) MOST_BODY_BYTES ≡ fits
+        → cond digits (cond fits (Ok (digits_value 10 value)) (Err BodyTooLarge)) (Err (Head place)) ≡ Ok body → body ≤ MOST_BODY_BYTES
     by_test true true at is = let e : digits_value 10 value ≡ body = cc in grind (arith, nat_tests)
     by_test true false at is = absurd (cc)
     by_test false fits at is = absurd (cc)
 stated_fits place (value ∷ other ∷ values) body is = absurd (cc)
 
-body_fits : (place : ℕ) (fields : List Header) (body : ℕ) → body_length place fields ≡ Ok body → body ≤ 4194304
+body_fits : (place : ℕ) (fields : List Header) (body : ℕ) → body_length place fields ≡ Ok body → body ≤ MOST_BODY_BYTES
 body_fits place fields body = by_test (list_any (is_named (codes "transfer-encoding")) fields)
   where
-    by_test : (t : Bool) → cond t (Err (LengthRequired place)) (stated_length place (values_named (codes "content-length") fields)) ≡ Ok body → body ≤ 4194304
+    by_test : (t : Bool) → cond t (Err (LengthRequired place)) (stated_length place (values_named (codes "content-length") fields)) ≡ Ok body → body ≤ MOST_BODY_BYTES
     by_test true is = absurd (cc)
     by_test false is = stated_fits place (values_named (codes "content-length") fields) body is
 
 -- a body is no longer than one may be
-pub IsFront-body : (place : ℕ) (bytes : List ℕ) (size : ℕ) (h : RequestHead) (body : ℕ) → IsFront place bytes (heads size h body) → body ≤ 4194304
+pub IsFront-body : (place : ℕ) (bytes : List ℕ) (size : ℕ) (h : RequestHead) (body : ℕ) → IsFront place bytes (heads size h body) → body ≤ MOST_BODY_BYTES
 IsFront-body place bytes size h body = in_state (head_state bytes)
   where
-    with_body : (n : ℕ) (k : RequestHead) (r : Result ℕ Fault) → body_length place (fields_of k) ≡ r → heads size h body ≡ with_length n k r → body ≤ 4194304
+    with_body : (n : ℕ) (k : RequestHead) (r : Result ℕ Fault) → body_length place (fields_of k) ≡ r → heads size h body ≡ with_length n k r → body ≤ MOST_BODY_BYTES
     with_body n k (Ok length) at is = body_fits place (fields_of k) body (at ∙ ap Ok (let e : length ≡ body = cc in e))
     with_body n k (Err f) at is = absurd (cc)
 
-    of_read : (n : ℕ) (read : Option RequestHead) → heads size h body ≡ judged place n read → body ≤ 4194304
+    of_read : (n : ℕ) (read : Option RequestHead) → heads size h body ≡ judged place n read → body ≤ MOST_BODY_BYTES
     of_read n None is = absurd (cc)
     of_read n (Some k) is = with_body n k (body_length place (fields_of k)) refl is
 
-    in_state : (s : HeadState) → IsFrontIn place bytes s (heads size h body) → body ≤ 4194304
+    in_state : (s : HeadState) → IsFrontIn place bytes s (heads size h body) → body ≤ MOST_BODY_BYTES
     in_state open_head is = absurd (cc)
     in_state crowded is = absurd (cc)
     in_state large is = absurd (cc)

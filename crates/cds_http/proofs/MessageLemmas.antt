@@ -8,6 +8,7 @@ use Rattle.std.proofs.lemmas.Bool.{cases_lt}
 use Rattle.std.proofs.lemmas.Bool.Decides.{nat_tests}
 use Rattle.httparse.specs.Grammar.{RequestHead, ReadsRequest, print_blank, print_end, print_version, print_section}
 use Rattle.httparse.proofs.GrammarLemmas.{print_request-append, cons-append}
+use Rattle.cds_http.specs.declared.limits.TheConstants.{MESSAGE_ROOM}
 use Rattle.cds_http.specs.declared.lines.Scan.{Scan}
 use Rattle.cds_http.specs.declared.head.Head.{Head as TheHead}
 use Rattle.cds_http.specs.declared.known.Known.{Known}
@@ -234,16 +235,16 @@ waits_is_open place bytes = in_state (head_state bytes)
     in_state (ended n) is = absurd (of_read n is.0 is.2)
 
 -- after `More` there is room
-pub more_has_room : (s : Stream) → Decides s next.More → length s.bytes < 4210688
+pub more_has_room : (s : Stream) → Decides s next.More → length s.bytes < MESSAGE_ROOM
 more_has_room s x = of_front x.front x.is_front x.answer_is
   where
-    of_front : (f : Front) → IsFront s.place s.bytes f → next.More ≡ next_of (length s.bytes) s.continued f → length s.bytes < 4210688
+    of_front : (f : Front) → IsFront s.place s.bytes f → next.More ≡ next_of (length s.bytes) s.continued f → length s.bytes < MESSAGE_ROOM
     of_front waits at is = omega (arith, open_is_short s.bytes (waits_is_open s.place s.bytes at))
     of_front (fails f) at is = absurd (cc)
     of_front (heads size h body) at is = by_test (expects_continue h.minor (fields_of h) body && not s.continued) (leb (size + body) (length s.bytes)) refl is
       where
         by_test : (due whole : Bool) → leb (size + body) (length s.bytes) ≡ whole
-            → next.More ≡ cond due next.Continue (cond whole (next.Request (request_of size h body)) next.More) → length s.bytes < 4210688
+            → next.More ≡ cond due next.Continue (cond whole (next.Request (request_of size h body)) next.More) → length s.bytes < MESSAGE_ROOM
         by_test true whole at' is = absurd (cc)
         by_test false true at' is = absurd (cc)
         by_test false false at' is =

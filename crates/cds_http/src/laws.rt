@@ -2,6 +2,7 @@
 //! what there is.
 
 ghost use Rattle.std.specs.Prelude.{◌≡◌, ℕ, Bool, false, true, List, ◌++◌};
+ghost use Rattle.cds_http.specs.declared.limits.TheConstants.{MESSAGE_ROOM, MOST_BODY_BYTES, MOST_FIELDS, MOST_HEAD_BYTES, MOST_LENGTH_DIGITS};
 ghost use Rattle.cds_http.specs.Items.{Item, AreItems, HasItems};
 ghost use Rattle.cds_http.specs.Totality.{passes};
 ghost use Rattle.cds_http.specs.Stream.{Stream, Decides, fed};
@@ -71,4 +72,10 @@ pub fn request_stays()
 /// A `Continue` is answered once.
 pub fn continue_comes_once()
     ensures { (stream : Stream) → stream.continued ≡ true → ¬ (Decides stream next.Continue) }
+{}
+
+/// The limits that the definitions cite: of a head, of its fields, of a body, of the digits of its length, and the
+/// room for one greatest message.
+pub fn the_limits()
+    ensures { (MOST_HEAD_BYTES ≡ 16384) × (MOST_FIELDS ≡ 64) × (MOST_BODY_BYTES ≡ 16777216) × (MOST_LENGTH_DIGITS ≡ 19) × (MESSAGE_ROOM ≡ 16793600) }
 {}

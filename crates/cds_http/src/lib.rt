@@ -18,7 +18,7 @@ mod tests;
 
 pub use laws::{
     continue_comes_once, decided_items_stay, each_stream_has_items, one_answer, one_list_of_items,
-    request_stays,
+    request_stays, the_limits,
 };
 pub use limits::{MESSAGE_ROOM, MOST_BODY_BYTES, MOST_FIELDS, MOST_HEAD_BYTES, MOST_LENGTH_DIGITS};
 pub use messages::Messages;

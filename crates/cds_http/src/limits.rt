@@ -7,7 +7,7 @@ pub const MOST_HEAD_BYTES: usize = 16_384;
 pub const MOST_FIELDS: usize = 64;
 
 /// The most bytes of a body.
-pub const MOST_BODY_BYTES: usize = 4_194_304;
+pub const MOST_BODY_BYTES: usize = 16_777_216;
 
 /// The most digits of a `Content-Length`.
 pub const MOST_LENGTH_DIGITS: usize = 19;

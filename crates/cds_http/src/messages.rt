@@ -60,8 +60,10 @@ fn append(held: &mut Vec<u8>, piece: &[u8])
     held.extend_from_slice(piece).unwrap();
 }
 
-/// Adds bytes behind those held, which begin at `start`, and answers where they begin then. Those held are moved
-/// where the room behind them is too small for the piece.
+/// Adds bytes behind those held, which begin at `start`, and answers where they begin then. Those held are moved to
+/// the front where they are no more than those that were dropped before them, or where the room behind them is too
+/// small for the piece: so no memory is written but what a message needs, and each byte that is moved was paid for
+/// by one that was dropped.
 fn take_in(held: &mut Vec<u8>, start: usize, piece: &[u8]) -> usize
     requires start { start ≤ vec_len held.old }
     requires total { vec_len held.old ≤ MESSAGE_ROOM }
@@ -73,7 +75,7 @@ fn take_in(held: &mut Vec<u8>, start: usize, piece: &[u8]) -> usize
     ensures total { vec_len held.new ≤ MESSAGE_ROOM }
     ensures capacity { MESSAGE_ROOM ≤ vec_capacity held.new }
 {
-    if start < held.len() && piece.len() <= MESSAGE_ROOM - held.len() {
+    if start < held.len() - start && piece.len() <= MESSAGE_ROOM - held.len() {
         append(held, piece);
         return start;
     }
@@ -147,8 +149,8 @@ impl Messages {
     }
 
     /// Takes the next bytes of the stream, at most `room` of them. The stream with them is below 2^64 bytes, and no
-    /// request that closes the connection was dropped. The bytes held are moved only where the room behind them is
-    /// too small for the piece.
+    /// request that closes the connection was dropped. The bytes held are moved only where they are no more than
+    /// those that were dropped before them, or where the room behind them is too small for the piece.
     pub fn feed(&mut self, piece: &[u8])
         requires in_room { length piece.now ≤ room_of self.old }
         requires counted { self.old.place + length self.old.bytes + length piece.now < 2 ^ 64 }

@@ -179,12 +179,12 @@ const STREAMS: [(&str, &[u8], &[u8]); 26] = [
     ),
     (
         "one byte too long",
-        b"PUT / HTTP/1.1\r\nContent-Length: 4194305\r\n\r\n",
+        b"PUT / HTTP/1.1\r\nContent-Length: 16777217\r\n\r\n",
         b"body",
     ),
     (
         "the longest body, cut off",
-        b"PUT / HTTP/1.1\r\nContent-Length: 4194304\r\n\r\nx",
+        b"PUT / HTTP/1.1\r\nContent-Length: 16777216\r\n\r\nx",
         b"truncated 0",
     ),
     (

@@ -1,13 +1,12 @@
 -- What the stores in memory hold.
 use Rattle.std.specs.Prelude.{ℕ, Bool, List}
+use Rattle.cds_base.specs.Failing.{FailingState}
 
--- the records, whether the store is open, the count of faults, the number of calls so far, and the numbers of those that are to fail
+-- the records, whether the store is open, and which calls of `load` and `put` fail
 pub record MapState : Type 0 where
   pub content : List (List ℕ)
   pub is_open : Bool
-  pub faults : ℕ
-  pub calls : ℕ
-  pub failing : List ℕ
+  pub failing : FailingState
 
 -- the records, and whether the store is open
 pub record NoFailState : Type 0 where

@@ -1,10 +1,12 @@
-ghost use Rattle.std.specs.Prelude.{◌≡◌, ◌≢◌, ◌+◌, ◌-◌, ◌^◌, ◌<◌, ◌≤◌, ◌↔◌, ◌⊎◌, ◌∷◌, ◌++◌, [], true, false, length, min, is_ok, IfOk, IsOk, OnOk, OnErr, Err, IsTrue, Some, Contains, if◌then◌else◌};
+ghost use Rattle.std.specs.Prelude.{◌≡◌, ◌≢◌, ◌^◌, ◌<◌, ◌≤◌, ◌↔◌, ◌⊎◌, ◌∷◌, ◌++◌, [], true, false, length, is_ok, IfOk, IsOk, OnOk, OnErr, Err, IsTrue, Some};
+ghost use Rattle.cds_base.specs.Failing.{after_call, fails_next};
 ghost use Rattle.cds_base.specs.Faults.{Rose};
 ghost use Rattle.cds_keep.specs.Found.{records};
 
 use crate::error::{LoadError, PutError};
 use crate::keeper::Keeper;
 use crate::records::Records;
+use cds_base::Failing;
 use std::alloc::{AllocError, Global};
 use std::marker::Model;
 
@@ -14,9 +16,7 @@ use std::marker::Model;
 pub struct MapKeeper {
     held: Records,
     is_open: bool,
-    failing: Vec<u64>,
-    calls: u64,
-    faults: u64,
+    failing: Failing,
 }
 
 impl Model for MapKeeper {
@@ -24,20 +24,18 @@ impl Model for MapKeeper {
 
     ghost Value = { MapState };
 
-    ghost view = { λ a. record { content = a.held; is_open = a.is_open; faults = a.faults; calls = a.calls; failing = a.failing.items } };
+    ghost view = { λ a. record { content = a.held; is_open = a.is_open; failing = a.failing } };
 }
 
 impl MapKeeper {
     /// A store without records that isn't open, and fails at the calls whose numbers are listed.
     pub fn new(alloc: Global, failing: &[u64]) -> Result<MapKeeper, AllocError>
-        ensures { IfOk result (λ k. k ≡ record { content = []; is_open = false; faults = 0; calls = 0; failing = failing.now }) }
+        ensures { IfOk result (λ k. k ≡ record { content = []; is_open = false; failing = record { numbers = failing.now; calls = 0; faults = 0 } }) }
     {
         Ok(MapKeeper {
             held: Records::new(alloc),
             is_open: false,
-            failing: Vec::from_slice(alloc, failing)?,
-            calls: 0,
-            faults: 0,
+            failing: Failing::new(alloc, failing)?,
         })
     }
 
@@ -54,24 +52,6 @@ impl MapKeeper {
     {
         self.is_open
     }
-
-    /// Counts a call and answers whether it is one that is to fail, which counts as a fault.
-    fn fails(&mut self) -> bool
-        ensures listed { IsTrue result ↔ Contains self.old.failing self.new.calls }
-        ensures number { self.new.calls ≡ min (self.old.calls + 1) (2 ^ 64 - 1) }
-        ensures failing { self.new.failing ≡ self.old.failing }
-        ensures counts { self.old.faults ≤ self.new.faults }
-        ensures content { self.new.content ≡ self.old.content }
-        ensures open { self.new.is_open ≡ self.old.is_open }
-        ensures fault { self.new.faults ≡ (if result then min (self.old.faults + 1) (2 ^ 64 - 1) else self.old.faults) }
-    {
-        self.calls = self.calls.saturating_add(1);
-        let fails = self.failing.contains(&self.calls);
-        if fails {
-            self.faults = self.faults.saturating_add(1);
-        }
-        fails
-    }
 }
 
 impl Keeper for MapKeeper {
@@ -81,23 +61,22 @@ impl Keeper for MapKeeper {
 
     ghost is_open = { λ s. s.is_open };
 
-    ghost faults = { λ s. s.faults };
+    ghost faults = { λ s. s.failing.faults };
 
     /// As the trait says. It fails exactly at the calls that are to fail, and finds no record damaged.
     fn load(&mut self, _store: &str) -> Result<Records, LoadError>
         ensures opened { self.new.is_open ≡ is_ok result }
         ensures found { IfOk result (λ list. list ≡ self.old.content) }
         ensures content_stays { self.new.content ≡ self.old.content }
-        ensures fails { (result ≡ Err LoadError.Failed) ↔ Contains self.old.failing self.new.calls }
+        ensures fails { (result ≡ Err LoadError.Failed) ↔ IsTrue (fails_next self.old.failing) }
         ensures undamaged { (result ≡ Err LoadError.Failed) ⊎ (result ≡ Err LoadError.NoMemory) ⊎ IsOk result }
-        ensures calls { self.new.calls ≡ min (self.old.calls + 1) (2 ^ 64 - 1) }
-        ensures failing_stays { self.new.failing ≡ self.old.failing }
-        ensures counts { self.old.faults ≤ self.new.faults }
-        ensures failed { result ≡ Err LoadError.Failed → Rose self.old.faults self.new.faults }
-        ensures count_stays { result ≢ Err LoadError.Failed → self.new.faults ≡ self.old.faults }
+        ensures calls { self.new.failing ≡ after_call self.old.failing }
+        ensures counts { self.old.failing.faults ≤ self.new.failing.faults }
+        ensures failed { result ≡ Err LoadError.Failed → Rose self.old.failing.faults self.new.failing.faults }
+        ensures count_stays { result ≢ Err LoadError.Failed → self.new.failing.faults ≡ self.old.failing.faults }
     {
         self.is_open = false;
-        if self.fails() {
+        if self.failing.call() {
             return Err(LoadError::Failed);
         }
         let records = self.held.copy()?;
@@ -112,14 +91,13 @@ impl Keeper for MapKeeper {
         ensures stays_open { self.new.is_open ≡ true }
         ensures appended { OnOk result (self.new.content ≡ self.old.content ++ body.now ∷ []) }
         ensures as_before { OnErr result (self.new.content ≡ self.old.content) }
-        ensures fails { (result ≡ Err PutError.Failed) ↔ Contains self.old.failing self.new.calls }
-        ensures calls { self.new.calls ≡ min (self.old.calls + 1) (2 ^ 64 - 1) }
-        ensures failing_stays { self.new.failing ≡ self.old.failing }
-        ensures counts { self.old.faults ≤ self.new.faults }
-        ensures failed { result ≡ Err PutError.Failed → Rose self.old.faults self.new.faults }
-        ensures count_stays { result ≢ Err PutError.Failed → self.new.faults ≡ self.old.faults }
+        ensures fails { (result ≡ Err PutError.Failed) ↔ IsTrue (fails_next self.old.failing) }
+        ensures calls { self.new.failing ≡ after_call self.old.failing }
+        ensures counts { self.old.failing.faults ≤ self.new.failing.faults }
+        ensures failed { result ≡ Err PutError.Failed → Rose self.old.failing.faults self.new.failing.faults }
+        ensures count_stays { result ≢ Err PutError.Failed → self.new.failing.faults ≡ self.old.failing.faults }
     {
-        if self.fails() {
+        if self.failing.call() {
             return Err(PutError::Failed);
         }
         self.held.add(body)?;
