@@ -1,0 +1,5 @@
+pub mod Json
+pub mod Toml
+pub mod Lookup
+pub mod Unknown
+pub mod Judging

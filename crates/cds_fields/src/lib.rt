@@ -1,0 +1,24 @@
+//! The judging of fields, for TOML and for JSON alike: what a table or an object states, field by field, or its first
+//! refusal with the path of the field.
+//!
+//! Begin at [`Section`] for a table or an object and at [`Entries`] for a list; [`Refusal`] says how a text's refusals
+//! are told, and [`TextValue`] what its values are. [`events`] reads the timed events of either text.
+#![tactic(auto)]
+
+mod entries;
+mod event;
+mod json_value;
+mod laws;
+mod limits;
+mod refusal;
+mod section;
+mod toml_value;
+mod value;
+
+pub use entries::{Entries, Entry};
+pub use event::events;
+pub use laws::the_limits;
+pub use limits::{MOST_EVENTS, MOST_SLOPE};
+pub use refusal::Refusal;
+pub use section::Section;
+pub use value::{TextValue, name_in, number_in, signed_in};
