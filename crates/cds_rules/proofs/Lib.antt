@@ -1,4 +1,2 @@
-pub mod Unknown
-pub mod Entries
 pub mod Names
 pub mod Utf8

@@ -1,21 +1,25 @@
--- The document of a text, with UTF-8 as a fact and as a test.
-use Rattle.std.proofs.Common.{◌≡◌, ℕ, Bool, true, false, List, Option, Some, None, IsUtf8, refl, cond}
+-- The fields of a text, with UTF-8 as a fact and as a test.
+use Rattle.std.proofs.Common.{◌≡◌, ℕ, Bool, true, false, List, Option, Some, None, IsUtf8, refl, cond, ap, option_map, ◌∙◌}
 use Rattle.std.proofs.lemmas.Str.{IsUtf8-from_is_utf8, is_utf8-from_IsUtf8}
 use Rattle.std.specs.Str.{is_utf8}
-use Rattle.toml.specs.Data.{Members}
 use Rattle.toml.specs.Parse.{parse_document}
-use Rattle.cds_rules.specs.Stated.{document}
+use Rattle.toml.specs.View.{view, members_view}
+use Rattle.toml.proofs.Views.{Entry}
+use Rattle.cds_fields.specs.Datum.{fields_of}
+use Rattle.cds_fields.specs.Seen.{fields_seen}
+use Rattle.cds_fields.specs.Toml.{of_toml, members_of_toml, toml_fields}
+use Rattle.cds_fields.proofs.Toml.{fields_of-toml}
 
--- the document of a text in UTF-8
-pub document-utf8 : (text : List ℕ) → IsUtf8 text → document text ≡ parse_document text
-unfolding document
-document-utf8 text utf8 = rw (is_utf8-from_IsUtf8 text utf8)
+-- the fields of a text in UTF-8 are those of its map
+pub toml_fields-utf8 : (text : List ℕ) (es : List Entry) → IsUtf8 text → parse_document text ≡ Some (members_view es) → toml_fields text ≡ Some (fields_seen (λ v. of_toml (view v)) es)
+unfolding toml_fields
+toml_fields-utf8 text es utf8 read = rw (is_utf8-from_IsUtf8 text utf8, read) (ap Some (fields_of-toml es))
 
-either : (b : Bool) (o : Option Members) → (b ≡ true → o ≡ None) → cond b o None ≡ None
+either : {X : Type 0} (b : Bool) (o : Option X) → (b ≡ true → o ≡ None) → cond b o None ≡ None
 either true o h = h refl
 either false o h = refl
 
 -- a text that is no UTF-8, or no document where it is, has none
-pub document-none : (text : List ℕ) → (IsUtf8 text → parse_document text ≡ None) → document text ≡ None
-unfolding document
-document-none text h = either (is_utf8 text) (parse_document text) (λ e. h (IsUtf8-from_is_utf8 text e))
+pub toml_fields-none : (text : List ℕ) → (IsUtf8 text → parse_document text ≡ None) → toml_fields text ≡ None
+unfolding toml_fields
+toml_fields-none text h = either (is_utf8 text) _ (λ e. ap (option_map (λ ms. fields_of (members_of_toml ms))) (h (IsUtf8-from_is_utf8 text e)))

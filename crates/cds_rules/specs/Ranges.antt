@@ -1,14 +1,14 @@
 -- The ranges and counts of a method. All are this project's own.
-use Rattle.std.specs.Prelude.{◌≡◌, ◌≢◌, ℕ, ◌<◌, ◌≤◌, ◌&&◌, Bool, true, false, List, length, All, AllPairs, Option, is_some, nat_le, nat_lt}
-use Rattle.std.specs.List.{AllPass}
+use Rattle.std.specs.Prelude.{◌≡◌, ◌≢◌, ℕ, ◌<◌, ◌≤◌, Bool, true, false, List, length, All, AllPairs, Option, is_some}
 use Rattle.std.specs.Option.{ForSome}
-use Rattle.cds_base.specs.declared.event.Event.{Event}
-use Rattle.cds_base.specs.declared.event.Event.TheVariants.{Inhibit, Valley, Drop, Baseline, Slope, Skim}
+use Rattle.cds_base.specs.declared.time.TheConstants.{LAST_TIME_MS, LAST_TIME_US}
+use Rattle.cds_fields.specs.declared.limits.TheConstants.{MOST_SLOPE}
 use Rattle.cds_rules.specs.declared.component.Component.{Component}
 use Rattle.cds_rules.specs.declared.check.Check.{Check}
 use Rattle.cds_rules.specs.declared.check.CheckKind.{CheckKind}
 use Rattle.cds_rules.specs.declared.check.CheckKind.TheVariants.{Resolution, R2}
-use Rattle.cds_rules.specs.declared.limits.TheConstants.{MOST_BUNCH, MOST_SLOPE, MOST_PLATEAU, MOST_FUSE, MOST_AREA, MOST_HEIGHT, MOST_DEAD_TIME_US, LAST_TIME_MS, MOST_COMPONENTS, MOST_EVENTS, MOST_CHECKS, MOST_LIMIT, MOST_R2_LIMIT}
+use Rattle.cds_rules.specs.declared.limits.TheConstants.{MOST_BUNCH, MOST_PLATEAU, MOST_FUSE, MOST_AREA, MOST_HEIGHT}
+use Rattle.cds_rules.specs.declared.limits.TheConstants.{FIRST_RULES, LAST_RULES, MOST_COMPONENTS, MOST_CHECKS, MOST_LIMIT, MOST_R2_LIMIT}
 
 -- the numbers by which peaks are found: 1 to 64 samples a bunch, slopes of 1 to 1,000,000,000 counts per second, at most 1,000 flat bunches
 pub record SlopeRanges (bunch slope_on slope_off plateau : ℕ) : Type 0 where
@@ -29,10 +29,15 @@ pub record LeastRanges (fuse min_area min_height : ℕ) : Type 0 where
 -- the optional times: a dead time of 1 to 14,400,000,000 microseconds, and a noise window with both ends or none, from below to
 pub record TimeRanges (dead_time_us noise_from_ms noise_to_ms : Option ℕ) : Type 0 where
   pub dead_time_least : ForSome dead_time_us (λ time. 1 ≤ time)
-  pub dead_time_most : ForSome dead_time_us (λ time. time ≤ MOST_DEAD_TIME_US)
+  pub dead_time_most : ForSome dead_time_us (λ time. time ≤ LAST_TIME_US)
   pub noise_both : is_some noise_from_ms ≡ is_some noise_to_ms
   pub noise_order : ForSome noise_from_ms (λ from. ForSome noise_to_ms (λ to. from < to))
   pub noise_most : ForSome noise_to_ms (λ to. to ≤ LAST_TIME_MS)
+
+-- an edition of the rules of integration, 1 or 2
+pub record RulesRange (rules : ℕ) : Type 0 where
+  pub least : FIRST_RULES ≤ rules
+  pub most : rules ≤ LAST_RULES
 
 -- the times of a component, at most 14,400,000 milliseconds each
 pub record ComponentTimes (component : Component) : Type 0 where
@@ -44,28 +49,6 @@ pub record ComponentRanges (components : List Component) : Type 0 where
   pub count : length components ≤ MOST_COMPONENTS
   pub times : All ComponentTimes components
   pub different : AllPairs (λ one later. one.name ≢ later.name) components
-
--- a window of at least one millisecond that ends at 14,400,000 milliseconds at the latest
-abbrev pub is_window : ℕ → ℕ → Bool
-is_window from to = nat_lt from to && nat_le to LAST_TIME_MS
-
--- a slope threshold of 1 to 1,000,000,000 counts per second
-abbrev pub is_slope : ℕ → Bool
-is_slope slope = nat_le 1 slope && nat_le slope MOST_SLOPE
-
--- an event whose times and thresholds are in their ranges
-abbrev pub is_event : Event → Bool
-is_event (Inhibit from to) = is_window from to
-is_event (Valley from to) = is_window from to
-is_event (Drop at) = nat_le at LAST_TIME_MS
-is_event (Baseline from to) = is_window from to
-is_event (Slope at on off) = nat_le at LAST_TIME_MS && is_slope on && is_slope off
-is_event (Skim from to) = is_window from to
-
--- at most 64 events, each in its ranges
-pub record EventRanges (events : List Event) : Type 0 where
-  pub count : length events ≤ MOST_EVENTS
-  pub each : AllPass is_event events
 
 -- only a check of resolution has a second component
 abbrev pub has_other : CheckKind → Bool

@@ -1,5 +1,6 @@
 -- The numbers by which the refusals of a method are told, and what is shown of them.
 use Rattle.std.specs.Prelude.{ℕ, List, [], Option, Some, None}
+use Rattle.cds_fields.specs.Refusals.{Refusals}
 use Rattle.cds_rules.specs.declared.error.MethodError.{MethodError}
 use Rattle.cds_rules.specs.declared.error.MethodError.TheVariants.{NotToml, Missing, Unknown, Range, TwoComponents, TooMany, TooLong, NoMemory}
 
@@ -24,3 +25,7 @@ field_of_refusal (TwoComponents name) = name
 field_of_refusal (TooMany field) = field
 field_of_refusal TooLong = []
 field_of_refusal NoMemory = []
+
+-- how the refusals of the fields of a method's text are told
+abbrev pub method_refusals : Refusals MethodError
+method_refusals = record { missing = Missing; range = Range; unknown = Unknown; too_many = TooMany; wanting = NoMemory }

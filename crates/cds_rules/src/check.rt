@@ -1,4 +1,5 @@
-ghost use Rattle.std.specs.Prelude.{◌≡◌, length};
+//! The checks of a method.
+ghost use Rattle.std.specs.Prelude.{◌≡◌, length, option_copied, slice_get};
 
 use std::marker::Model;
 
@@ -71,5 +72,12 @@ impl CheckList {
         ensures { result ≡ length self.now }
     {
         self.items.len()
+    }
+
+    /// The check at a place, counted from 0. None exactly where there are not so many.
+    pub fn get(&self, i: usize) -> Option<&Check>
+        ensures { option_copied result ≡ slice_get self.now i }
+    {
+        self.items.get(i)
     }
 }

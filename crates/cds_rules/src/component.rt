@@ -1,4 +1,5 @@
-ghost use Rattle.std.specs.Prelude.{◌≡◌, length};
+//! The components of a method.
+ghost use Rattle.std.specs.Prelude.{◌≡◌, length, option_copied, slice_get};
 
 use cds_base::Name;
 use std::marker::Model;
@@ -47,5 +48,12 @@ impl ComponentList {
         ensures { result ≡ length self.now }
     {
         self.items.len()
+    }
+
+    /// The component at a place, counted from 0. None exactly where there are not so many.
+    pub fn get(&self, i: usize) -> Option<&Component>
+        ensures { option_copied result ≡ slice_get self.now i }
+    {
+        self.items.get(i)
     }
 }

@@ -1,7 +1,9 @@
+//! The refusals of a method's text.
 ghost use Rattle.std.specs.Prelude.{◌≡◌};
 ghost use Rattle.cds_rules.specs.declared.error.MethodError.TheVariants.{NoMemory};
 
 use cds_base::{Name, Text};
+use cds_fields::Refusal;
 use std::alloc::{AllocError, AllocFailed};
 use thiserror::Error;
 
@@ -67,6 +69,32 @@ impl MethodError {
             MethodError::TwoComponents(name) => name.as_bytes(),
             _ => &[],
         }
+    }
+}
+
+impl Refusal for MethodError {
+    ghost use Rattle.cds_rules.specs.Refusal.{method_refusals};
+
+    ghost told = { method_refusals };
+
+    fn missing(path: Text) -> MethodError {
+        MethodError::Missing(path)
+    }
+
+    fn range(path: Text) -> MethodError {
+        MethodError::Range(path)
+    }
+
+    fn unknown(path: Text) -> MethodError {
+        MethodError::Unknown(path)
+    }
+
+    fn too_many(path: Text) -> MethodError {
+        MethodError::TooMany(path)
+    }
+
+    fn no_memory() -> MethodError {
+        MethodError::NoMemory
     }
 }
 

@@ -7,25 +7,26 @@
 mod check;
 mod component;
 mod error;
+mod laws;
 mod limits;
 mod method;
 mod read_check;
 mod read_component;
-mod read_event;
 mod read_method;
-mod read_numbers;
-mod section;
+mod read_settings;
 mod values;
 
 pub use check::{Check, CheckKind, CheckList};
 pub use component::{Component, ComponentList};
 pub use error::MethodError;
+pub use laws::the_limits;
 pub use limits::{
-    LAST_TIME_MS, MOST_AREA, MOST_BUNCH, MOST_CHECKS, MOST_COMPONENTS, MOST_DEAD_TIME_US,
-    MOST_EVENTS, MOST_FUSE, MOST_HEIGHT, MOST_LIMIT, MOST_METHOD_BYTES, MOST_PLATEAU,
-    MOST_R2_LIMIT, MOST_SLOPE, RULES,
+    FIRST_RULES, LAST_RULES, MOST_AREA, MOST_BUNCH, MOST_CHECKS, MOST_COMPONENTS, MOST_FUSE,
+    MOST_HEIGHT, MOST_LIMIT, MOST_METHOD_BYTES, MOST_PLATEAU, MOST_R2_LIMIT,
 };
 pub use method::{Method, Weight};
+/// The limits of events, which a method shares with the rows of a sequence.
+pub use cds_fields::{MOST_EVENTS, MOST_SLOPE};
 
 #[cfg(test)]
 mod tests;

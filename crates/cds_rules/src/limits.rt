@@ -3,9 +3,6 @@
 /// The most samples that make one bunch.
 pub const MOST_BUNCH: u32 = 64;
 
-/// The greatest slope threshold, in counts per second.
-pub const MOST_SLOPE: u32 = 1_000_000_000;
-
 /// The most flat bunches that a climb may pass over.
 pub const MOST_PLATEAU: u32 = 1_000;
 
@@ -18,20 +15,14 @@ pub const MOST_AREA: u64 = 4_000_000_000_000_000;
 /// The greatest least height, in counts.
 pub const MOST_HEIGHT: u32 = 200_000_000;
 
-/// The greatest dead time, in microseconds: four hours.
-pub const MOST_DEAD_TIME_US: u64 = 14_400_000_000;
+/// The first edition of the rules of integration: that of a method that states none.
+pub const FIRST_RULES: u8 = 1;
 
-/// The last time of an event, a component or a noise window, in milliseconds: four hours.
-pub const LAST_TIME_MS: u32 = 14_400_000;
-
-/// The edition of the rules of integration.
-pub const RULES: u8 = 1;
+/// The last edition of the rules of integration.
+pub const LAST_RULES: u8 = 2;
 
 /// The most components of a method.
 pub const MOST_COMPONENTS: usize = 32;
-
-/// The most events of a method.
-pub const MOST_EVENTS: usize = 64;
 
 /// The most checks of a method.
 pub const MOST_CHECKS: usize = 64;

@@ -1,11 +1,15 @@
+//! What a method states.
 ghost use Rattle.std.specs.Prelude.{◌≡◌, ◌≤◌};
-ghost use Rattle.cds_rules.specs.Ranges.{SlopeRanges, LeastRanges, TimeRanges, ComponentRanges, EventRanges, CheckRanges};
-ghost use Rattle.cds_rules.specs.declared.limits.TheConstants.{RULES, MOST_BUNCH, MOST_SLOPE, MOST_PLATEAU};
+ghost use Rattle.cds_fields.specs.Event.{EventRanges};
+ghost use Rattle.cds_fields.specs.declared.limits.TheConstants.{MOST_SLOPE};
+ghost use Rattle.cds_rules.specs.Ranges.{SlopeRanges, LeastRanges, TimeRanges, RulesRange, ComponentRanges, CheckRanges};
+ghost use Rattle.cds_rules.specs.declared.limits.TheConstants.{MOST_BUNCH, MOST_PLATEAU};
 
 use crate::check::CheckList;
 use crate::component::ComponentList;
-use crate::limits::{MOST_BUNCH, MOST_PLATEAU, MOST_SLOPE, RULES};
+use crate::limits::{FIRST_RULES, MOST_BUNCH, MOST_PLATEAU};
 use cds_base::EventList;
+use cds_fields::MOST_SLOPE;
 use std::alloc::Global;
 
 /// How the points of a calibration line are weighted.
@@ -44,7 +48,7 @@ pub struct Method {
     pub noise_from_ms: Option<u32>,
     /// Where the noise window ends, at most 14,400,000 milliseconds.
     pub noise_to_ms: Option<u32>,
-    /// The edition of the rules of integration, which is 1.
+    /// The edition of the rules of integration, 1 or 2.
     pub rules: u8,
     /// The components, at most 32 of different names.
     pub components: ComponentList,
@@ -55,7 +59,7 @@ pub struct Method {
     pub ghost slopes: { SlopeRanges bunch slope_on slope_off plateau },
     pub ghost least: { LeastRanges fuse min_area min_height },
     pub ghost times: { TimeRanges dead_time_us noise_from_ms noise_to_ms },
-    pub ghost edition: { rules ≡ RULES },
+    pub ghost edition: { RulesRange rules },
     pub ghost named: { ComponentRanges components },
     pub ghost timed: { EventRanges events },
     pub ghost checked: { CheckRanges components checks },
@@ -67,8 +71,8 @@ impl Method {
     ghost use Rattle.cds_rules.specs.declared.method.Weight.TheVariants.{Equal};
 
     /// The method of these four numbers, which has no components, events or checks, no dead time and no noise
-    /// window, rejects no peak for a small area or height, fuses only peaks that touch, weights all points alike and follows the rules of
-    /// edition 1. It takes no memory.
+    /// window, rejects no peak for a small area or height, fuses only peaks that touch, weights all points alike
+    /// and follows the rules of edition 1. It takes no memory.
     pub fn of_slopes(
         alloc: Global,
         bunch: u32,
@@ -94,7 +98,7 @@ impl Method {
             dead_time_us: None,
             noise_from_ms: None,
             noise_to_ms: None,
-            rules: RULES,
+            rules: FIRST_RULES,
             components: ComponentList::from_vec(Vec::new(alloc)),
             events: EventList::from_vec(Vec::new(alloc)),
             checks: CheckList::from_vec(Vec::new(alloc)),

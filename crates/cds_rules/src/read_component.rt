@@ -1,33 +1,33 @@
 //! Reading the components of a method's text.
-ghost use Rattle.std.specs.Prelude.{◌≡◌, ◌≢◌, All, IfOk, codes};
+ghost use Rattle.std.specs.Prelude.{◌≡◌, ◌≢◌, All, IfOk};
 ghost use Rattle.std.specs.Bool.{OnFalse};
 ghost use Rattle.std.specs.List.{list_any};
 ghost use Rattle.std.specs.Str.{bytes_eq};
-ghost use Rattle.cds_rules.specs.declared.limits.TheConstants.{MOST_COMPONENTS};
+ghost use Rattle.cds_base.specs.Answers.{Gives};
+ghost use Rattle.cds_rules.specs.declared.error.MethodError.TheVariants.{NoMemory};
 ghost use Rattle.cds_rules.specs.Ranges.{ComponentTimes, ComponentRanges};
-ghost use Rattle.cds_rules.specs.Section.{Gives};
-ghost use Rattle.cds_rules.specs.Seen.{seen};
-ghost use Rattle.cds_rules.specs.Stated.{component_of, list_of};
+ghost use Rattle.cds_rules.specs.Seen.{seen, entry_seen};
+ghost use Rattle.cds_rules.specs.Stated.{component_of, components_of};
 
 use crate::component::{Component, ComponentList};
 use crate::error::MethodError;
-use crate::limits::{LAST_TIME_MS, MOST_COMPONENTS};
-use crate::section::{Section, entry};
-use cds_base::Name;
+use crate::limits::MOST_COMPONENTS;
+use cds_base::{LAST_TIME_MS, Name};
+use cds_fields::{Entry, Section};
+use toml::Value;
 
 /// The components of a method.
-#[tactic(auto, using(crate::proofs::Entries::judging), unfolding(crate::specs::Stated::list_of))]
-pub(crate) fn components(section: &Section) -> Result<ComponentList, MethodError>
-    ensures value { Gives (λ x. x) (list_of component_of (codes "component") MOST_COMPONENTS (seen section.now)) result }
+#[tactic(auto, using(cds_fields::proofs::Judging::judging), unfolding(crate::specs::Stated::components_of))]
+pub(crate) fn components(
+    section: &Section<Value, MethodError>,
+) -> Result<ComponentList, MethodError>
+    ensures value { Gives NoMemory (λ x. x) (components_of (seen section.now)) result }
     ensures ranges { IfOk result ComponentRanges }
 {
+    let entries = section.optional_entries("component", MOST_COMPONENTS)?;
     let mut components = Vec::new(section.alloc());
-    for (place, value) in section
-        .entries("component", MOST_COMPONENTS)?
-        .iter()
-        .enumerate()
-    {
-        let entry = entry(section.alloc(), "component", place + 1, value)?;
+    for place in 0..entries.len() {
+        let entry = entries.at(place)?;
         let component = component(components.as_slice(), &entry)?;
         components.push(component)?;
     }
@@ -36,11 +36,15 @@ pub(crate) fn components(section: &Section) -> Result<ComponentList, MethodError
 
 /// A component, whose name is none of those before it.
 #[tactic(auto, unfolding(crate::specs::Stated::component_of))]
-fn component(before: &[Component], section: &Section) -> Result<Component, MethodError>
-    ensures value { Gives (λ c. c) (component_of before.now (seen section.now)) result }
+fn component(
+    before: &[Component],
+    entry: &Entry<Value, MethodError>,
+) -> Result<Component, MethodError>
+    ensures value { Gives NoMemory (λ c. c) (component_of before.now (entry_seen entry.now)) result }
     ensures times { IfOk result ComponentTimes }
     ensures differs { IfOk result (λ c. All (λ one. one.name ≢ c.name) before.now) }
 {
+    let section = entry.section()?;
     let name = section.name("name")?;
     if is_named(before, &name) {
         return Err(MethodError::TwoComponents(name));

@@ -1,22 +1,26 @@
 //! Reading a method from its text.
-ghost use Rattle.std.specs.Prelude.{ok_or};
-ghost use Rattle.toml.specs.View.{table_view};
-ghost use Rattle.cds_rules.specs.declared.error.MethodError.TheVariants.{NotToml};
+ghost use Rattle.std.specs.Prelude.{ok_or, IfOk};
+ghost use Rattle.toml.specs.View.{view};
+ghost use Rattle.cds_base.specs.Answers.{Gives};
+ghost use Rattle.cds_fields.specs.Event.{EventRanges};
+ghost use Rattle.cds_fields.specs.Section.{only};
+ghost use Rattle.cds_fields.specs.Seen.{fields_seen};
+ghost use Rattle.cds_fields.specs.Toml.{of_toml, toml_fields};
+ghost use Rattle.cds_rules.specs.declared.error.MethodError.TheVariants.{NotToml, NoMemory};
 ghost use Rattle.cds_rules.specs.Fields.{fields_of};
-ghost use Rattle.cds_rules.specs.Section.{Gives, only};
 ghost use Rattle.cds_rules.specs.Seen.{seen};
-ghost use Rattle.cds_rules.specs.Stated.{method_of, top_fields, document, stated};
+ghost use Rattle.cds_rules.specs.Stated.{method_of, method_events, top_fields, stated};
 
 use crate::error::MethodError;
 use crate::limits::MOST_METHOD_BYTES;
 use crate::method::Method;
 use crate::read_check::checks;
 use crate::read_component::components;
-use crate::read_event::events;
-use crate::read_numbers::Numbers;
-use crate::section::Section;
+use crate::read_settings::settings;
+use cds_base::EventList;
+use cds_fields::{MOST_EVENTS, Section};
 use std::alloc::Global;
-use toml::Table;
+use toml::{Table, Value};
 
 impl Method {
     /// The method that a text states, which is TOML in UTF-8. Where it states none, its first refusal: TooLong
@@ -27,7 +31,7 @@ impl Method {
     /// NoMemory says nothing of the text. The form of the text is this project's own.
     #[tactic(auto, unfolding(crate::specs::Stated::stated))]
     pub fn read_toml(alloc: Global, bytes: &[u8]) -> Result<Method, MethodError>
-        ensures { Gives fields_of (stated bytes.now) result }
+        ensures { Gives NoMemory fields_of (stated bytes.now) result }
     {
         if bytes.len() > MOST_METHOD_BYTES {
             return Err(MethodError::TooLong);
@@ -39,7 +43,7 @@ impl Method {
 
 /// The table of a text, which is TOML in UTF-8.
 fn table(alloc: Global, bytes: &[u8]) -> Result<Table, MethodError>
-    ensures { Gives (λ t. table_view t) (ok_or (document bytes.now) NotToml) result }
+    ensures { Gives NoMemory (λ t. fields_seen (λ v. of_toml (view v)) t.entries) (ok_or (toml_fields bytes.now) NotToml) result }
 {
     match toml::table_from_slice(alloc, bytes) {
         Ok(table) => Ok(table),
@@ -54,36 +58,46 @@ fn table(alloc: Global, bytes: &[u8]) -> Result<Table, MethodError>
 
 /// The method that the table of a text states.
 #[tactic(auto, unfolding(crate::specs::Stated::method_of))]
-fn method(section: &Section) -> Result<Method, MethodError>
-    ensures { Gives fields_of (method_of (seen section.now)) result }
+fn method(section: &Section<Value, MethodError>) -> Result<Method, MethodError>
+    ensures { Gives NoMemory fields_of (method_of (seen section.now)) result }
 {
-    let numbers = Numbers::read(section)?;
+    let settings = settings(section)?;
     only_top(section)?;
     let components = components(section)?;
     let events = events(section)?;
     let checks = checks(components.as_slice(), section)?;
     Ok(Method {
-        bunch: numbers.slopes.bunch,
-        slope_on: numbers.slopes.slope_on,
-        slope_off: numbers.slopes.slope_off,
-        plateau: numbers.slopes.plateau,
-        fuse: numbers.least.fuse,
-        min_area: numbers.least.min_area,
-        min_height: numbers.least.min_height,
-        weight: numbers.weight,
-        dead_time_us: numbers.dead_time_us,
-        noise_from_ms: numbers.noise.from_ms,
-        noise_to_ms: numbers.noise.to_ms,
-        rules: numbers.rules,
+        bunch: settings.bunch,
+        slope_on: settings.slope_on,
+        slope_off: settings.slope_off,
+        plateau: settings.plateau,
+        fuse: settings.fuse,
+        min_area: settings.min_area,
+        min_height: settings.min_height,
+        weight: settings.weight,
+        dead_time_us: settings.dead_time_us,
+        noise_from_ms: settings.noise_from_ms,
+        noise_to_ms: settings.noise_to_ms,
+        rules: settings.rules,
         components,
         events,
         checks,
     })
 }
 
+/// The timed events of a method.
+#[tactic(auto, unfolding(crate::specs::Stated::method_events))]
+fn events(section: &Section<Value, MethodError>) -> Result<EventList, MethodError>
+    ensures value { Gives NoMemory (λ x. x) (method_events (seen section.now)) result }
+    ensures ranges { IfOk result EventRanges }
+{
+    let entries = section.optional_entries("event", MOST_EVENTS)?;
+    cds_fields::events(&entries)
+}
+
 /// Refuses the first field that a method's text may not have.
-fn only_top(section: &Section) -> Result<(), MethodError>
-    ensures { Gives (λ x. x) (only top_fields (seen section.now)) result }
+fn only_top(section: &Section<Value, MethodError>) -> Result<(), MethodError>
+    ensures { Gives NoMemory (λ x. x) (only top_fields (seen section.now)) result }
 {
     section.only(&[
         "bunch",

@@ -8,7 +8,7 @@ const TEXT: &str =
     "bunch = 1\nslope_on = 5\nslope_off = 6\nplateau = 3\nfuse = 2\nmin_area = 7\nmin_height = 8\nweight = \"origin\"\n# end\n";
 
 const LISTS: &str =
-    "dead_time_us = 14400000000\nnoise_from_ms = 0\nnoise_to_ms = 14400000\nrules = 1
+    "dead_time_us = 14400000000\nnoise_from_ms = 0\nnoise_to_ms = 14400000\nrules = 2
 [[component]]\nname = \"caf\"\ntime_ms = 5000\nwindow_ms = 500
 [[component]]\nname = \"theo.2\"\ntime_ms = 0\nwindow_ms = 14400000
 [[event]]\nkind = \"skim\"\nfrom_ms = 1\nto_ms = 2
@@ -17,7 +17,7 @@ const LISTS: &str =
 [[check]]\nkind = \"r2\"\ncomponent = \"caf\"\nlimit = 10000\n";
 
 // Each refusal: the part of the text, what stands there in its place, the number of the refusal and what it shows.
-const REFUSALS: [(&str, &str, u8, &str); 48] = [
+const REFUSALS: [(&str, &str, u8, &str); 49] = [
     ("bunch = 1\n", "bunch =\n", 1, ""),
     ("bunch = 1\n", "bunch = 1\nbunch = 1\n", 1, ""),
     ("bunch = 1\n", "", 2, "bunch"),
@@ -41,7 +41,8 @@ const REFUSALS: [(&str, &str, u8, &str); 48] = [
         4,
         "noise_to_ms",
     ),
-    ("# end", "rules = 2", 4, "rules"),
+    ("# end", "rules = 0", 4, "rules"),
+    ("# end", "rules = 3", 4, "rules"),
     ("# end", "z = 1\nab = 1\nb = 1", 3, "ab"),
     ("# end", "z = 1\ncomponent = 1", 3, "z"),
     ("# end", "event = 1\ncomponent = 1", 4, "component"),
@@ -214,7 +215,7 @@ fn reads_each_field_and_the_longest_text(rt: HostRuntime) -> Result<(), Fail> {
         (method.noise_from_ms, method.noise_to_ms),
         (Some(0), Some(14_400_000))
     );
-    assert_eq!(rt; method.rules, 1);
+    assert_eq!(rt; method.rules, 2);
     let caf = Component {
         name: Name::new(b"caf").ok_or("caf is a name")?,
         time_ms: 5000,
@@ -253,12 +254,18 @@ fn reads_each_field_and_the_longest_text(rt: HostRuntime) -> Result<(), Fail> {
 }
 
 #[test]
-fn refuses_bytes_above_the_limit_or_outside_utf8(rt: HostRuntime) -> Result<(), Fail> {
+fn refuses_bytes_above_the_limit_and_follows_the_first_rules_where_none_are_stated(
+    rt: HostRuntime,
+) -> Result<(), Fail> {
     let long = vec![in rt.alloc(); b'#'; MOST_METHOD_BYTES + 1]?;
     let longer = Method::read_toml(rt.alloc(), long.as_slice());
     assert!(rt; matches!(&longer, Err(MethodError::TooLong)));
     let other = Method::read_toml(rt.alloc(), b"bunch = 1 # \xff");
     assert!(rt; matches!(&other, Err(MethodError::NotToml)));
+    let least = Method::read_toml(rt.alloc(), TEXT.as_bytes())?;
+    let stated = TEXT.replacen(rt.alloc(), "# end", "rules = 1", 1)?;
+    let first = Method::read_toml(rt.alloc(), stated.as_bytes())?;
+    assert_eq!(rt; (least.rules, first.rules), (1, 1));
     let slopes = Method::of_slopes(rt.alloc(), 64, 1, 2, 0);
     assert_eq!(rt;
         (
