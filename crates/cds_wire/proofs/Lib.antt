@@ -1,3 +1,2 @@
-pub mod Unknown
 pub mod Utf8
 pub mod Written

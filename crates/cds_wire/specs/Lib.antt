@@ -1,5 +1,4 @@
-pub mod Section
+pub mod Refusal
 pub mod Seen
-pub mod Values
 pub mod Stated
 pub mod Reply

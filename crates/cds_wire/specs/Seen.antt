@@ -1,9 +1,13 @@
 -- An object of a request's body, as its judging sees it.
-use Rattle.std.specs.Prelude.{string_bytes}
-use Rattle.serde_json.specs.View.{members_view}
-use Rattle.cds_wire.specs.Section.{Section}
-use Rattle.cds_wire.specs.declared.section.Section.{Section as Held}
+use Rattle.serde_json.specs.View.{view}
+use Rattle.serde_json.specs.declared.value.Value.{Value}
+use Rattle.cds_fields.specs.Json.{of_json}
+use Rattle.cds_fields.specs.Section.{Section}
+use Rattle.cds_fields.specs.Seen.{seen as seen_as}
+use Rattle.cds_fields.specs.declared.section.Section.{Section as Held}
+use Rattle.cds_wire.specs.declared.error.BodyError.{BodyError}
+use Rattle.cds_wire.specs.Refusal.{body_refusals}
 
--- the object with the bytes of its path and its fields
-abbrev pub seen : Held → Section
-seen s = record { front = string_bytes s.front; fields = members_view s.object.now.entries }
+-- an object
+abbrev pub seen : Held Value BodyError → Section BodyError
+seen = seen_as (λ v. of_json (view v)) body_refusals

@@ -1,4 +1,8 @@
+//! The refusals of a request's body.
+ghost use Rattle.std.specs.Prelude.{◌≡◌};
+
 use cds_base::Text;
+use cds_fields::Refusal;
 use thiserror::Error;
 
 /// Why a request's body states nothing.
@@ -14,4 +18,30 @@ pub enum BodyError {
     /// There was no memory, which says nothing of the body.
     #[error("there was no memory")]
     NoMemory,
+}
+
+impl Refusal for BodyError {
+    ghost use Rattle.cds_wire.specs.Refusal.{body_refusals};
+
+    ghost told = { body_refusals };
+
+    fn missing(path: Text) -> BodyError {
+        BodyError::Field(path)
+    }
+
+    fn range(path: Text) -> BodyError {
+        BodyError::Field(path)
+    }
+
+    fn unknown(path: Text) -> BodyError {
+        BodyError::Field(path)
+    }
+
+    fn too_many(path: Text) -> BodyError {
+        BodyError::Field(path)
+    }
+
+    fn no_memory() -> BodyError {
+        BodyError::NoMemory
+    }
 }

@@ -7,14 +7,14 @@ mod answer;
 mod body;
 mod error;
 mod freeze;
+mod laws;
 mod limits;
 mod replies;
-mod section;
-mod values;
 
 pub use answer::{Answer, Shown};
 pub use error::BodyError;
 pub use freeze::read_freeze;
+pub use laws::the_limits;
 pub use limits::MOST_FREEZE_VERSION;
 pub use replies::reply;
 
