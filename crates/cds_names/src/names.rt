@@ -1,5 +1,6 @@
-ghost use Rattle.std.specs.Prelude.{◌≡◌, ◌<◌, ◌^◌, length, IfOk};
-ghost use Rattle.cds_names.specs.Naming.{IsUnblocked, IsOnlyUnblocked, number_at, number_of};
+//! The naming of peaks.
+ghost use Rattle.std.specs.Prelude.{◌≡◌, ◌<◌, ◌^◌, length, slice_get, IfOk};
+ghost use Rattle.cds_names.specs.Naming.{IsUnblocked, IsOnlyUnblocked, number_of};
 ghost use Rattle.cds_names.specs.Giving.{peaks_with, taken_with};
 
 use crate::wanted::{Wanted, wanted_pairs};
@@ -33,15 +34,12 @@ impl Names {
         self.peaks.len() as u32
     }
 
-    /// The number, counted from 1, of the peak that the component at place `i` names, where places are counted from
-    /// 0. None where it names none, and past the last component.
-    pub fn get(&self, i: u32) -> Option<u32>
-        ensures { result ≡ number_at self.now i }
+    /// The entry at a place, counted from 0: the place of the peak that the component there names, counted from 0 too,
+    /// or None where it names none. None exactly where there are not so many components.
+    pub fn get(&self, i: u32) -> Option<Option<u32>>
+        ensures { result ≡ slice_get self.now i }
     {
-        match self.peaks.get(i as usize) {
-            Some(Some(place)) => Some(*place + 1),
-            _ => None,
-        }
+        self.peaks.get(i as usize).copied()
     }
 
     /// The number, counted from 1, of the peak that the component of the number `component` names, counted from 1
@@ -52,7 +50,10 @@ impl Names {
         if component == 0 {
             return None;
         }
-        self.get(component - 1)
+        match self.peaks.get(component as usize - 1) {
+            Some(Some(place)) => Some(*place + 1),
+            _ => None,
+        }
     }
 }
 
