@@ -1,5 +1,5 @@
 -- The least and the greatest number of a range that passes a test.
-use Rattle.std.specs.Prelude.{ℕ, zero, suc, ◌-◌, Bool, cond}
+use Rattle.std.specs.Prelude.{◌≡◌, ℕ, zero, suc, ◌-◌, ◌≤◌, Bool, true, cond}
 use Rattle.std.specs.List.{range_with_len, find}
 use Rattle.std.specs.Option.{unwrap_or}
 
@@ -11,3 +11,8 @@ least test from end = unwrap_or (find test (range_with_len from (end - from))) e
 unfoldable pub greatest : (ℕ → Bool) → ℕ → ℕ
 greatest test zero = zero
 greatest test (suc n) = cond (test (suc n)) (suc n) (greatest test n)
+
+-- the test passes at 0, and below each number at which it passes
+pub record PassesFromBelow (test : ℕ → Bool) : Type 0 where
+  pub start : test 0 ≡ true
+  pub below : (j k : ℕ) → j ≤ k → test k ≡ true → test j ≡ true

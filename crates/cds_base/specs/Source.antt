@@ -1,5 +1,5 @@
 -- What the objects in memory that give bytes hold.
-use Rattle.std.specs.Prelude.{ℕ, ◌-◌, List, length, min}
+use Rattle.std.specs.Prelude.{ℕ, List, length, min}
 use Rattle.cds_base.specs.Failing.{FailingState}
 
 -- bytes given and left, the most that one call gives, and which calls fail

@@ -1,5 +1,4 @@
-use Rattle.std.proofs.Common.{sym, subst, map, [], ap}
-use Rattle.std.specs.List.Sorted.{IsStrictlySortedBy}
+use Rattle.std.proofs.Common.{sym, subst, map}
 use Rattle.cds_base.specs.Named.{AreRising}
 use Rattle.cds_base.specs.declared.named.Named.{Named}
 use Rattle.cds_base.proofs.NamedLaws.{AreRising-none}

@@ -1,5 +1,5 @@
-use Rattle.std.proofs.Common.{◌≡◌, ◌∙◌, sym, subst, map}
-use Rattle.cds_base.specs.Named.{placed, AreRising, IsPlaceOf}
+use Rattle.std.proofs.Common.{◌∙◌, sym, subst, map}
+use Rattle.cds_base.specs.Named.{AreRising, IsPlaceOf}
 use Rattle.cds_base.specs.declared.named.Named.{Named}
 use Rattle.cds_base.proofs.NamedLaws.{placed-stands, placed-gap, AreRising-placed}
 use Rattle.cds_base.proofs.named.NamedList.put.Goals as goal
