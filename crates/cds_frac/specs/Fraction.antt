@@ -2,6 +2,7 @@
 use Rattle.std.specs.Prelude.{◌≡◌, ℕ, ◌-◌, ◌*◌, ◌/◌, ◌%◌, ◌^◌, ◌<◌, ℤ, pos, negsuc, neg_ℤ, ◌*ℤ◌, ◌==◌, unsigned_abs}
 use Rattle.std.specs.Int.{int_div_euclid}
 use Rattle.cds_frac.specs.Divisors.{least_from, AreCoprime}
+use Rattle.cds_frac.specs.declared.fraction.TheConstants.{PART_LIMIT}
 
 -- the number `num / den`
 pub record Fraction : Type 0 where
@@ -31,9 +32,9 @@ lowest_terms num den =
 abbrev pub floor_of : Fraction → ℤ
 floor_of f = int_div_euclid f.num (pos f.den)
 
--- both parts are below 2^126
+-- both parts are below their limit, 2^126
 abbrev pub IsInRange : Fraction → Type 0
-IsInRange f = (unsigned_abs f.num < 2 ^ 126) × (f.den < 2 ^ 126)
+IsInRange f = (unsigned_abs f.num < PART_LIMIT) × (f.den < PART_LIMIT)
 
 -- the number times u / v, in lowest terms
 abbrev pub product_of : Fraction → ℕ → ℕ → Fraction

@@ -1,3 +1,4 @@
+//! An exact number.
 ghost use Rattle.std.specs.Prelude.{◌≡◌, ℕ, ◌*◌, ◌<◌, ◌≤◌, pos, ◌+ℤ◌, ◌*ℤ◌, ◌≤ℤ◌, ◌<ℤ◌, unsigned_abs, IsTrue, ◌↔◌, IfSome, IfNone, IfOk};
 ghost use Rattle.std.specs.Option.{SomeIff};
 ghost use Rattle.std.specs.Ordering.{as_partial_cmp};
@@ -190,6 +191,18 @@ impl Ord for Frac {
     }
 }
 
+/// The product of two factors. None exactly where it is `PART_LIMIT`, 2^126, or more. It takes no memory.
+pub fn product_below_limit(a: u128, b: u128) -> Option<u128>
+    ensures { SomeIff result (a * b < PART_LIMIT) (a * b) }
+{
+    let product = a.checked_mul(b)?;
+    if product < PART_LIMIT {
+        Some(product)
+    } else {
+        None
+    }
+}
+
 /// The parts of `size / den` times `u / v` in lowest terms, where `size / den` is in lowest terms. None exactly
 /// where one of them is `PART_LIMIT` or more. Common divisors are cancelled before the products are formed.
 fn product_parts(size: u128, den: u128, u: u128, v: u128) -> Option<(u128, u128)>
@@ -210,18 +223,6 @@ fn product_parts(size: u128, den: u128, u: u128, v: u128) -> Option<(u128, u128)
         return None;
     };
     Some((top, bottom))
-}
-
-/// The product of two factors. None exactly where it is `PART_LIMIT` or more.
-fn product_below_limit(a: u128, b: u128) -> Option<u128>
-    ensures { SomeIff result (a * b < PART_LIMIT) (a * b) }
-{
-    let product = a.checked_mul(b)?;
-    if product < PART_LIMIT {
-        Some(product)
-    } else {
-        None
-    }
 }
 
 /// The number of this size with the sign of `sign`.

@@ -7,9 +7,11 @@ mod compare;
 mod decimals;
 mod divisors;
 mod fraction;
+mod laws;
 #[cfg(test)]
 mod tests;
 
 pub use decimals::MOST_DECIMALS;
 pub use divisors::{LCM_LIMIT, gcd, lcm};
-pub use fraction::{Frac, PART_LIMIT};
+pub use fraction::{Frac, PART_LIMIT, product_below_limit};
+pub use laws::the_limits;
