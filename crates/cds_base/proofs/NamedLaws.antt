@@ -1,5 +1,5 @@
 -- What stands under a name among entries whose names rise, and what becomes of them when an entry is placed.
-use Rattle.std.proofs.Common.{◌≡◌, ◌∙◌, ℕ, zero, suc, ◌+◌, ◌-◌, ◌<◌, ◌≤◌, Bool, true, false, cond, inl, inr, List, [], ◌∷◌, ◌++◌, length, get_or, set, take, drop, map, Option, Some, None, Result, Ok, Err, IfOk, IfErr, refl, sym, ap, ap₂, subst, arith, is_eq, is_lt, is_gt, Less, Equal, Greater, Ordering, append-nil, append_assoc, take-append-drop, length-set}
+use Rattle.std.proofs.Common.{◌≡◌, ◌∙◌, ℕ, zero, suc, ◌+◌, ◌-◌, ◌<◌, ◌≤◌, Bool, true, false, cond, inl, inr, List, [], ◌∷◌, ◌++◌, length, get_or, set, take, drop, map, Option, Some, None, option_map, Result, Ok, Err, IfOk, IfErr, refl, sym, ap, ap₂, subst, arith, is_eq, is_lt, is_gt, Less, Equal, Greater, Ordering, append-nil, append_assoc, take-append-drop, length-set, get_or-set_same}
 use Rattle.std.specs.Prelude.{All, ◌⊎◌}
 use Rattle.std.specs.List.{filter, find, insert, sum_by, HoldsAt}
 use Rattle.std.specs.List.Sorted.{IsStrictlySortedBy, IsSearchInRange, IsBinarySearchResult, IsSortedBy}
@@ -8,7 +8,7 @@ use Rattle.std.specs.Ordering.{ordering_reverse}
 use Rattle.std.specs.Str.{bytes_eq}
 use Rattle.std.proofs.lemmas.Bool.{cases_lt, cases_eq, false≢true}
 use Rattle.std.proofs.lemmas.Cmp.{nat_list_cmp_total, tied_itself}
-use Rattle.std.proofs.lemmas.List.{take-map, drop-map, length-map, map-append, drop_more, take-set, drop-set, get_or-map, get_or-take, get_or-drop, length-take-le, length-drop}
+use Rattle.std.proofs.lemmas.List.{take-map, drop-map, length-map, map-append, drop_more, take-set, drop-set, drop-set-lt, get_or-map, get_or-take, get_or-drop, length-take-le, length-drop}
 use Rattle.std.proofs.lemmas.List.Edits.{length-insert}
 use Rattle.std.proofs.lemmas.List.Elements.{All-head, All-tail, All-cons, All-nil, All-weaker, All-append, All-filter, All-map, filter-append, filter_passes, recursion_from_All}
 use Rattle.std.proofs.lemmas.List.Folds.{find-append}
@@ -207,6 +207,15 @@ module _ {E : Type 0} (name_of : E → List ℕ) where
       (All-append (λ e. gt e ≡ false) front (old ∷ []) (fails_gt name front stands.lesser) (All-cons (λ e. gt e ≡ false) old [] (ap is_gt tied) (All-nil (λ e. gt e ≡ false))))
       (passes_gt name back stands.greater) in
       ap₂ (λ xs ys. xs ++ entry ∷ ys) lesser greater ∙ sym (set_parts entries at entry stands.within)
+
+  -- another entry of the same name stands where the one before it stood
+  pub StandsAt-set : (entries : List E) (name : List ℕ) (at : ℕ) (e : E) → name_of e ≡ name → StandsAt name_of entries name at → StandsAt name_of (set entries at e) name at
+  StandsAt-set entries name at e same stands = record {
+    within = omega (arith, length-set entries at e, stands.within);
+    here = λ d. subst (λ x. name_of x ≡ name) (sym (get_or-set_same entries at e d stands.within)) same;
+    lesser = subst (All (λ x. byte_cmp (name_of x) name ≡ Less)) (sym (take-set entries at e)) stands.lesser;
+    greater = subst (All (λ x. byte_cmp (name_of x) name ≡ Greater)) (sym (drop-set-lt (at + 1) entries at e (omega arith))) stands.greater;
+  }
 
   -- the entry that stands at the place of a name is that of the name
   pub named-stands : (entries : List E) (name : List ℕ) (at : ℕ) (d : E) → StandsAt name_of entries name at → named name_of entries name ≡ Some (get_or entries at d)
@@ -429,35 +438,21 @@ module _ {E : Type 0} (name_of : E → List ℕ) where
         },
       )
 
--- what holds at a place of a list holds there of what is shown of it
-HoldsAt-map : {X Y : Type 0} (P : Y → Type 0) (f : X → Y) (xs : List X) (at : ℕ) → at < length xs → HoldsAt (λ x. P (f x)) xs at → HoldsAt P (map f xs) at
-HoldsAt-map P f [] at below holds = absurd (omega arith)
-HoldsAt-map P f (x ∷ xs) zero below holds = λ d. holds x
-HoldsAt-map P f (x ∷ xs) (suc at) below holds = HoldsAt-map P f xs at (omega arith) holds
-
--- a place among entries is the place among what is shown of them
+-- entries are placed among others as what is shown of them is
 module _ {H E : Type 0} (shown : H → E) (name_of : E → List ℕ) where
-  StandsAt-shown : (hs : List H) (name : List ℕ) (at : ℕ) → StandsAt (λ h. name_of (shown h)) hs name at → StandsAt name_of (map shown hs) name at
-  StandsAt-shown hs name at stands = record {
-    within = omega (arith, length-map hs shown, stands.within);
-    here = HoldsAt-map (λ e. name_of e ≡ name) shown hs at stands.within stands.here;
-    lesser = subst (All (λ e. byte_cmp (name_of e) name ≡ Less)) (sym (take-map shown at hs)) (All-map (λ e. byte_cmp (name_of e) name ≡ Less) shown (take at hs) stands.lesser);
-    greater = subst (All (λ e. byte_cmp (name_of e) name ≡ Greater)) (sym (drop-map shown (at + 1) hs)) (All-map (λ e. byte_cmp (name_of e) name ≡ Greater) shown (drop (at + 1) hs) stands.greater);
-  }
+  pub map-placed : (hs : List H) (h : H) → map shown (placed (λ x. name_of (shown x)) hs h) ≡ placed name_of (map shown hs) (shown h)
+  map-placed hs h =
+      let lesser = λ (e : E). is_lt (byte_cmp (name_of e) (name_of (shown h))) in
+      let greater = λ (e : E). is_gt (byte_cmp (name_of e) (name_of (shown h))) in
+      map-append shown (filter (λ x. lesser (shown x)) hs) (h ∷ filter (λ x. greater (shown x)) hs)
+      ∙ ap₂ (λ xs ys. xs ++ shown h ∷ ys) (map-filter lesser shown hs) (map-filter greater shown hs)
 
-  IsGapAt-shown : (hs : List H) (name : List ℕ) (at : ℕ) → IsGapAt (λ h. name_of (shown h)) hs name at → IsGapAt name_of (map shown hs) name at
-  IsGapAt-shown hs name at gap = record {
-    within = omega (arith, length-map hs shown, gap.within);
-    lesser = subst (All (λ e. byte_cmp (name_of e) name ≡ Less)) (sym (take-map shown at hs)) (All-map (λ e. byte_cmp (name_of e) name ≡ Less) shown (take at hs) gap.lesser);
-    greater = subst (All (λ e. byte_cmp (name_of e) name ≡ Greater)) (sym (drop-map shown at hs)) (All-map (λ e. byte_cmp (name_of e) name ≡ Greater) shown (drop at hs) gap.greater);
-  }
-
-  -- what a binary search by name finds, in terms of what is shown
-  pub searched_shown : (hs : List H) (name : List ℕ) → AreRising (map name_of (map shown hs)) → (r : Result ℕ ℕ) → IsSearchInRange r (length hs) → IsBinarySearchResult (λ h. byte_cmp (name_of (shown h)) name) hs r → IfOk r (StandsAt name_of (map shown hs) name) × IfErr r (IsGapAt name_of (map shown hs) name)
-  searched_shown hs name rising r within found =
-      let facts = searched (λ h. name_of (shown h)) hs name (subst AreRising (map-map name_of shown hs) rising) r within found in
-      by_result r facts
+  -- and found as it is
+  pub named-map : (hs : List H) (name : List ℕ) → named name_of (map shown hs) name ≡ option_map shown (named (λ x. name_of (shown x)) hs name)
+  named-map [] name = refl
+  named-map (h ∷ hs) name = pick (bytes_eq (name_of (shown h)) name) (named-map hs name)
     where
-      by_result : (r : Result ℕ ℕ) → IfOk r (StandsAt (λ h. name_of (shown h)) hs name) × IfErr r (IsGapAt (λ h. name_of (shown h)) hs name) → IfOk r (StandsAt name_of (map shown hs) name) × IfErr r (IsGapAt name_of (map shown hs) name)
-      by_result (Ok at) facts = (StandsAt-shown hs name at facts.0, tt)
-      by_result (Err at) facts = (tt, IsGapAt-shown hs name at facts.1)
+      pick : (b : Bool) → named name_of (map shown hs) name ≡ option_map shown (named (λ x. name_of (shown x)) hs name)
+          → cond b (Some (shown h)) (named name_of (map shown hs) name) ≡ option_map shown (cond b (Some h) (named (λ x. name_of (shown x)) hs name))
+      pick true rest = refl
+      pick false rest = rest

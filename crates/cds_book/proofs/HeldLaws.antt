@@ -5,21 +5,21 @@ use Rattle.std.specs.List.{insert, HoldsAt}
 use Rattle.std.proofs.lemmas.Bool.Decides.{nat_tests}
 use Rattle.std.proofs.lemmas.List.{length-map, map-set, map-append, take-map, drop-map, get_or-map}
 use Rattle.cds_trace.specs.Signal.{Signal}
-use Rattle.cds_book.specs.Held.{traces_shown, method_shown, room_shown, state_held, tables_held, IsHeld, HasRoom, IsTraceAt, IsTraceGap, IsMethodAt, IsMethodGap}
+use Rattle.cds_book.specs.Held.{HeldTraces, HeldMethod, held_name, traces_shown, method_shown, room_shown, state_held, tables_held, IsHeld, HasRoom, IsTraceAt, IsTraceGap, IsMethodAt, IsMethodGap}
 use Rattle.cds_book.specs.Kept.{IsTables, trace_versions_in_all, samples_in_all, method_versions_in_all}
-use Rattle.cds_book.specs.Places.{placed, StandsAt}
+use Rattle.cds_base.specs.Named.{placed, StandsAt}
 use Rattle.cds_book.specs.Plan.{applied, counts_of, with_signals, with_method, Accepts}
-use Rattle.cds_book.specs.Tables.{NamedTraces, NamedMethod, TablesState, TablesValue, Room, trace_room, draft_room, freeze_room, signals_of, draft_of, texts_of}
+use Rattle.cds_book.specs.Tables.{NamedTraces, NamedMethod, TablesState, TablesValue, Room, trace_room, draft_room, freeze_room, method_named, signals_of, draft_of, texts_of}
 use Rattle.cds_book.specs.declared.command.Change.TheVariants as change
 use Rattle.cds_book.specs.declared.command.Change.{Change}
-use Rattle.cds_book.specs.declared.entry.TraceEntry.{TraceEntry}
-use Rattle.cds_book.specs.declared.entry.MethodEntry.{MethodEntry}
+use Rattle.cds_base.specs.declared.named.Named.{Named}
+use Rattle.cds_book.specs.declared.entry.MethodTexts.{MethodTexts}
 use Rattle.cds_book.specs.declared.limits.TheConstants.{MOST_TRACE_NAMES, MOST_VERSIONS, MOST_TRACE_VERSIONS, MOST_SAMPLES_IN_ALL, MOST_METHODS, MOST_METHOD_VERSIONS}
 use Rattle.cds_book.specs.declared.room.Taken.{Taken}
 use Rattle.cds_book.specs.declared.room.Taken.TheVariants.{Version, Traces, Draft, Method, Freeze}
 use Rattle.cds_book.specs.declared.tables.Tables.TheInside.{Inside}
-use Rattle.cds_book.proofs.PlaceLaws.{placed-stands, placed-gap}
-use Rattle.cds_book.proofs.LookLaws.{traces_named-at, traces_named-gap, signals_of-found, method_named-at, method_named-gap, texts_of-found, draft_of-found}
+use Rattle.cds_base.proofs.NamedLaws.{map-placed, named-stands, named-gap, placed-stands}
+use Rattle.cds_book.proofs.LookLaws.{traces_named-held, signals_of-found, method_named-held, texts_of-found, draft_of-found}
 use Rattle.cds_book.proofs.TraceLaws.{trace_name, new_name, applied-trace, counts-trace, trace_versions-trace, samples-trace, IsTables-trace}
 use Rattle.cds_book.proofs.MethodLaws.{method_name, counts-draft, counts-freeze, method_versions-with}
 use mir.Val.{bool_byte}
@@ -31,14 +31,14 @@ new_name-empty (s ∷ ss) = let some : (suc (length ss) == 0) ≡ false = grind 
 
 -- the counts that a trace raises, from those that are kept
 pub counts-held : (a : Inside) (v : TablesValue) (name : List ℕ) (signal : Signal) (versions : List Signal) (names new samples : ℕ) →
-    IsHeld a → tables_held a ≡ v → names ≡ vec_len a.traces → versions ≡ signals_of v.state name → new ≡ bool_byte (length versions == 0) → samples ≡ length signal.samples →
+    IsHeld a → tables_held a ≡ v → names ≡ length a.traces.entries.items → versions ≡ signals_of v.state name → new ≡ bool_byte (length versions == 0) → samples ≡ length signal.samples →
     (names + new, MOST_TRACE_NAMES) ∷ (length versions + 1, MOST_VERSIONS) ∷ (a.trace_versions + 1, MOST_TRACE_VERSIONS) ∷ (a.samples + samples, MOST_SAMPLES_IN_ALL) ∷ []
     ≡ counts_of (change.Trace name signal) (applied v.state (change.Trace name signal))
 counts-held a v name signal versions names new samples held view_is many are fresh long =
     let t = state_held a in
     let same : t ≡ v.state = ap (λ (w : TablesValue). w.state) view_is in
     let are' : versions ≡ signals_of t name = are ∙ ap (λ s. signals_of s name) (sym same) in
-    let length_held : names ≡ length t.traces = many ∙ a.traces.ok.0 ∙ sym (length-map a.traces.items traces_shown) in
+    let length_held : names ≡ length t.traces = many ∙ sym (length-map a.traces.entries.items traces_shown) in
     let fresh' : new ≡ new_name (signals_of t name) = fresh ∙ new_name-empty versions ∙ ap new_name are' in
     subst (λ s. (names + new, MOST_TRACE_NAMES) ∷ (length versions + 1, MOST_VERSIONS) ∷ (a.trace_versions + 1, MOST_TRACE_VERSIONS) ∷ (a.samples + samples, MOST_SAMPLES_IN_ALL) ∷ [] ≡ counts_of (change.Trace name signal) (applied s (change.Trace name signal))) same
     (rw (length_held, fresh', are', held.trace_versions, held.samples, long) (sym (counts-trace t held.tables name signal)))
@@ -59,15 +59,9 @@ entry_eq n m vs ws e f = cc
 pub method_eq : (n m d g : List ℕ) (vs ws : List (List ℕ)) → n ≡ m → d ≡ g → vs ≡ ws → let e : NamedMethod = record { name = n; draft = d; versions = vs } in let f : NamedMethod = record { name = m; draft = g; versions = ws } in e ≡ f
 method_eq n m d g vs ws e f h = cc
 
--- an insertion among what is shown
-map-insert : {X Y : Type 0} (f : X → Y) (xs : List X) (i : ℕ) (y : X) → map f (insert xs i y) ≡ insert (map f xs) i (f y)
-map-insert f xs i y = map-append f (take i xs) (y ∷ drop i xs) ∙ ap₂ (λ front back. front ++ f y ∷ back) (sym (take-map f i xs)) (sym (drop-map f i xs))
-
 -- the name of what was read at a place
-read_name : {H E : Type 0} (shown : H → E) (name_of : E → List ℕ) (hs : List H) (name : List ℕ) (at : ℕ) (r : H) → StandsAt name_of (map shown hs) name at → r ≡ get_or hs at r → name_of (shown r) ≡ name
-read_name shown name_of hs name at r stands read =
-    let here : get_or (map shown hs) at (shown r) ≡ shown r = get_or-map shown hs at r (shown r) (omega (arith, length-map hs shown, stands.within)) ∙ ap shown (sym read) in
-    ap name_of (sym here) ∙ stands.here (shown r)
+read_name : {V : Type 0} (hs : List (Named V)) (name : List ℕ) (at : ℕ) (r : Named V) → StandsAt held_name hs name at → r ≡ get_or hs at r → r.name ≡ name
+read_name hs name at r stands read = ap held_name read ∙ stands.here r
 
 -- the room that was taken is what it is good for
 HasRoom-taken : (a : Inside) (x taken : Taken) → IsHeld a → Some x ≡ a.room → x ≡ taken → HasRoom a taken
@@ -81,50 +75,66 @@ room_name a v room x view_is is taken =
     cc
 
 -- room for one more version of a trace that is there
-pub room-version : (a : Inside) (v : TablesValue) (name n : List ℕ) (at : ℕ) (x : Taken) → tables_held a ≡ v → IsHeld a → v.room ≡ Some (trace_room name) → Some x ≡ a.room → x ≡ Version n at → IsTraceAt a.traces.items name at
+pub room-version : (a : Inside) (v : TablesValue) (name n : List ℕ) (at : ℕ) (x : Taken) → tables_held a ≡ v → IsHeld a → v.room ≡ Some (trace_room name) → Some x ≡ a.room → x ≡ Version n at → IsTraceAt a.traces.entries.items name at
 room-version a v name n at x view_is held is taken same =
     let shown : room_shown (Version n at) ≡ trace_room name = ap room_shown (sym same) ∙ room_name a v (trace_room name) x view_is is taken in
     let one : n ≡ name = cc in
-    subst (λ m. IsTraceAt a.traces.items m at) one (HasRoom-taken a x (Version n at) held taken same).0
+    subst (λ m. IsTraceAt a.traces.entries.items m at) one (HasRoom-taken a x (Version n at) held taken same).0
 
 -- room for a trace name that isn't there yet
-pub room-traces : (a : Inside) (v : TablesValue) (name n : List ℕ) (at : ℕ) (versions : Vec Signal Global) (x : Taken) → tables_held a ≡ v → IsHeld a → v.room ≡ Some (trace_room name) → Some x ≡ a.room → x ≡ Traces n at versions → IsTraceGap a.traces.items name at × (versions.items ≡ [])
+pub room-traces : (a : Inside) (v : TablesValue) (name n : List ℕ) (at : ℕ) (versions : Vec Signal Global) (x : Taken) → tables_held a ≡ v → IsHeld a → v.room ≡ Some (trace_room name) → Some x ≡ a.room → x ≡ Traces n at versions → IsTraceGap a.traces.entries.items name at × (versions.items ≡ [])
 room-traces a v name n at versions x view_is held is taken same =
     let shown : room_shown (Traces n at versions) ≡ trace_room name = ap room_shown (sym same) ∙ room_name a v (trace_room name) x view_is is taken in
     let one : n ≡ name = cc in
     let room = HasRoom-taken a x (Traces n at versions) held taken same in
-    (subst (λ m. IsTraceGap a.traces.items m at) one room.0, room.2)
+    (subst (λ m. IsTraceGap a.traces.entries.items m at) one room.0, room.2)
 
 -- b is a with one more version of a trace
 pub record PutsTrace (a b : Inside) (name : List ℕ) (signal : Signal) : Type 0 where
-  pub traces : map traces_shown b.traces.items ≡ placed trace_name (map traces_shown a.traces.items) (record { name = name; versions = signals_of (state_held a) name ++ signal ∷ [] })
+  pub traces : map traces_shown b.traces.entries.items ≡ placed trace_name (map traces_shown a.traces.entries.items) (record { name = name; versions = signals_of (state_held a) name ++ signal ∷ [] })
   pub trace_versions : b.trace_versions ≡ a.trace_versions + 1
   pub samples : b.samples ≡ a.samples + length signal.samples
-  pub methods : b.methods.items ≡ a.methods.items
+  pub methods : b.methods.entries.items ≡ a.methods.entries.items
   pub method_versions : b.method_versions ≡ a.method_versions
   pub room : b.room ≡ None
 
-module _ (a : Inside) (name : List ℕ) (at : ℕ) (signal : Signal) (e : TraceEntry) where
+-- an entry that is placed is seen as one with its name and its versions
+placed_traces : (hs : List HeldTraces) (e : HeldTraces) (name : List ℕ) (versions : List Signal) → e.name ≡ name → e.value.items ≡ versions →
+    map traces_shown (placed held_name hs e) ≡ placed trace_name (map traces_shown hs) (record { name = name; versions = versions })
+placed_traces hs e name versions named are = map-placed traces_shown trace_name hs e ∙ ap (placed trace_name (map traces_shown hs)) (entry_eq e.name name e.value.items versions named are)
+
+module _ (a : Inside) (name : List ℕ) (at : ℕ) (signal : Signal) where
   -- one more version of an entry that is there
-  pub puts_version : (r : TraceEntry) → IsTraceAt a.traces.items name at → r ≡ get_or a.traces.items at r → e.name ≡ r.name → e.versions.items ≡ r.versions.items ++ signal ∷ [] →
-      map traces_shown (set a.traces.items at e) ≡ placed trace_name (map traces_shown a.traces.items) (record { name = name; versions = signals_of (state_held a) name ++ signal ∷ [] })
-  puts_version r stands read named grown =
-      let entry : NamedTraces = record { name = name; versions = signals_of (state_held a) name ++ signal ∷ [] } in
-      let same_name : e.name ≡ name = named ∙ read_name traces_shown trace_name a.traces.items name at r stands read in
-      let versions : signals_of (state_held a) name ≡ r.versions.items = signals_of-found (state_held a) name _ (traces_named-at a (tables_held a) refl name at a.traces.items r refl stands read) in
-      let same_versions : e.versions.items ≡ signals_of (state_held a) name ++ signal ∷ [] = grown ∙ ap (λ vs. vs ++ signal ∷ []) (sym versions) in
-      let shown : traces_shown e ≡ entry = entry_eq e.name name e.versions.items (signals_of (state_held a) name ++ signal ∷ []) same_name same_versions in
-      map-set traces_shown a.traces.items at e ∙ ap (set (map traces_shown a.traces.items) at) shown ∙ sym (placed-stands trace_name (map traces_shown a.traces.items) entry at stands)
+  pub puts_version : (e r : HeldTraces) → IsTraceAt a.traces.entries.items name at → r ≡ get_or a.traces.entries.items at r → e.name ≡ r.name → e.value.items ≡ r.value.items ++ signal ∷ [] →
+      map traces_shown (set a.traces.entries.items at e) ≡ placed trace_name (map traces_shown a.traces.entries.items) (record { name = name; versions = signals_of (state_held a) name ++ signal ∷ [] })
+  puts_version e r stands read named grown =
+      let same_name : e.name ≡ name = named ∙ read_name a.traces.entries.items name at r stands read in
+      let here : StandsAt held_name a.traces.entries.items e.name at = subst (λ n. StandsAt held_name a.traces.entries.items n at) (sym same_name) stands in
+      let found = traces_named-held a (tables_held a) refl name ∙ ap (option_map traces_shown) (named-stands held_name a.traces.entries.items name at r stands ∙ ap Some (sym read)) in
+      let versions : signals_of (state_held a) name ≡ r.value.items = signals_of-found (state_held a) name _ found in
+      ap (map traces_shown) (sym (placed-stands held_name a.traces.entries.items e at here))
+      ∙ placed_traces a.traces.entries.items e name (signals_of (state_held a) name ++ signal ∷ []) same_name (grown ∙ ap (λ vs. vs ++ signal ∷ []) (sym versions))
 
   -- the first version of a name
-  pub puts_traces : IsTraceGap a.traces.items name at → e.name ≡ name → e.versions.items ≡ signal ∷ [] →
-      map traces_shown (insert a.traces.items at e) ≡ placed trace_name (map traces_shown a.traces.items) (record { name = name; versions = signals_of (state_held a) name ++ signal ∷ [] })
-  puts_traces gap same_name first =
-      let entry : NamedTraces = record { name = name; versions = signals_of (state_held a) name ++ signal ∷ [] } in
-      let versions : signals_of (state_held a) name ≡ [] = signals_of-found (state_held a) name _ (traces_named-gap a (tables_held a) refl name at a.traces.items refl gap) in
-      let same_versions : e.versions.items ≡ signals_of (state_held a) name ++ signal ∷ [] = first ∙ ap (λ vs. vs ++ signal ∷ []) (sym versions) in
-      let shown : traces_shown e ≡ entry = entry_eq e.name name e.versions.items (signals_of (state_held a) name ++ signal ∷ []) same_name same_versions in
-      map-insert traces_shown a.traces.items at e ∙ ap (insert (map traces_shown a.traces.items) at) shown ∙ sym (placed-gap trace_name (map traces_shown a.traces.items) entry at gap)
+  pub puts_traces : (versions : Vec Signal Global) → IsTraceGap a.traces.entries.items name at → versions.items ≡ signal ∷ [] →
+      map traces_shown (placed held_name a.traces.entries.items (record { name = name; value = versions })) ≡ placed trace_name (map traces_shown a.traces.entries.items) (record { name = name; versions = signals_of (state_held a) name ++ signal ∷ [] })
+  puts_traces versions gap first =
+      let found = traces_named-held a (tables_held a) refl name ∙ ap (option_map traces_shown) (named-gap held_name a.traces.entries.items name at gap) in
+      let none : signals_of (state_held a) name ≡ [] = signals_of-found (state_held a) name _ found in
+      placed_traces a.traces.entries.items (record { name = name; value = versions }) name (signals_of (state_held a) name ++ signal ∷ []) refl (first ∙ ap (λ vs. vs ++ signal ∷ []) (sym none))
+
+-- a name that is put with its first version
+pub PutsTrace-new : (a b : Inside) (name : List ℕ) (at : ℕ) (signal : Signal) (versions : Vec Signal Global) → IsTraceGap a.traces.entries.items name at → versions.items ≡ signal ∷ [] →
+    b.traces.entries.items ≡ placed held_name a.traces.entries.items (record { name = name; value = versions }) → b.trace_versions ≡ a.trace_versions + 1 → b.samples ≡ a.samples + length signal.samples →
+    b.methods.entries.items ≡ a.methods.entries.items → b.method_versions ≡ a.method_versions → b.room ≡ None → PutsTrace a b name signal
+PutsTrace-new a b name at signal versions gap first put more longer methods texts room = record {
+  traces = ap (map traces_shown) put ∙ puts_traces a name at signal versions gap first;
+  trace_versions = more;
+  samples = longer;
+  methods = methods;
+  method_versions = texts;
+  room = room;
+}
 
 module _ (a b : Inside) (v : TablesValue) (name : List ℕ) (signal : Signal) (view_is : tables_held a ≡ v) (puts : PutsTrace a b name signal) where
   -- what the tables then hold
@@ -160,12 +170,12 @@ none_seen (Some x) true seen = seen
 none_seen (Some x) false seen = refl
 
 -- the count that a draft raises, from what is kept
-pub draft_counts-held : (a : Inside) (v : TablesValue) (name text : List ℕ) (draft : Option (Bor (List ℕ))) (is_new : Bool) (methods new : ℕ) → IsHeld a → tables_held a ≡ v → methods ≡ vec_len a.methods → option_copied draft ≡ draft_of v.state name → is_some draft ≡ not is_new → new ≡ bool_byte is_new →
+pub draft_counts-held : (a : Inside) (v : TablesValue) (name text : List ℕ) (draft : Option (Bor (List ℕ))) (is_new : Bool) (methods new : ℕ) → IsHeld a → tables_held a ≡ v → methods ≡ length a.methods.entries.items → option_copied draft ≡ draft_of v.state name → is_some draft ≡ not is_new → new ≡ bool_byte is_new →
     (methods + new, MOST_METHODS) ∷ [] ≡ counts_of (change.Draft name text) (applied v.state (change.Draft name text))
 draft_counts-held a v name text draft is_new methods new held view_is many is seen fresh =
     let t = state_held a in
     let same : t ≡ v.state = ap (λ (w : TablesValue). w.state) view_is in
-    let length_held : methods ≡ length t.methods = many ∙ a.methods.ok.0 ∙ sym (length-map a.methods.items method_shown) in
+    let length_held : methods ≡ length t.methods = many ∙ sym (length-map a.methods.entries.items method_shown) in
     let fresh' : new ≡ bool_byte (is_none (draft_of t name)) = fresh ∙ ap bool_byte (none_seen draft is_new seen) ∙ ap (λ o. bool_byte (is_none o)) (is ∙ ap (λ s. draft_of s name) (sym same)) in
     subst (λ s. (methods + new, MOST_METHODS) ∷ [] ≡ counts_of (change.Draft name text) (applied s (change.Draft name text))) same
     (rw (length_held, fresh') (sym (counts-draft t held.tables name text)))
@@ -189,61 +199,82 @@ freeze_counts-held a v name version texts held view_is is_there are =
     (rw (are', held.method_versions) (sym (counts-freeze t held.tables name version draft is')))
 
 -- room for another draft, for a new method, and for one more version of a method
-pub room-draft : (a : Inside) (v : TablesValue) (name n : List ℕ) (at : ℕ) (x : Taken) → tables_held a ≡ v → IsHeld a → v.room ≡ Some (draft_room name) → Some x ≡ a.room → x ≡ Draft n at → IsMethodAt a.methods.items name at
+pub room-draft : (a : Inside) (v : TablesValue) (name n : List ℕ) (at : ℕ) (x : Taken) → tables_held a ≡ v → IsHeld a → v.room ≡ Some (draft_room name) → Some x ≡ a.room → x ≡ Draft n at → IsMethodAt a.methods.entries.items name at
 room-draft a v name n at x view_is held is taken same =
     let shown : room_shown (Draft n at) ≡ draft_room name = ap room_shown (sym same) ∙ room_name a v (draft_room name) x view_is is taken in
     let one : n ≡ name = cc in
-    subst (λ m. IsMethodAt a.methods.items m at) one (HasRoom-taken a x (Draft n at) held taken same)
+    subst (λ m. IsMethodAt a.methods.entries.items m at) one (HasRoom-taken a x (Draft n at) held taken same)
 
-pub room-method : (a : Inside) (v : TablesValue) (name n : List ℕ) (at : ℕ) (x : Taken) → tables_held a ≡ v → IsHeld a → v.room ≡ Some (draft_room name) → Some x ≡ a.room → x ≡ Method n at → IsMethodGap a.methods.items name at
+pub room-method : (a : Inside) (v : TablesValue) (name n : List ℕ) (at : ℕ) (x : Taken) → tables_held a ≡ v → IsHeld a → v.room ≡ Some (draft_room name) → Some x ≡ a.room → x ≡ Method n at → IsMethodGap a.methods.entries.items name at
 room-method a v name n at x view_is held is taken same =
     let shown : room_shown (Method n at) ≡ draft_room name = ap room_shown (sym same) ∙ room_name a v (draft_room name) x view_is is taken in
     let one : n ≡ name = cc in
-    subst (λ m. IsMethodGap a.methods.items m at) one (HasRoom-taken a x (Method n at) held taken same).0
+    subst (λ m. IsMethodGap a.methods.entries.items m at) one (HasRoom-taken a x (Method n at) held taken same).0
 
-pub room-freeze : (a : Inside) (v : TablesValue) (name n : List ℕ) (at : ℕ) (text : List ℕ) (x : Taken) → tables_held a ≡ v → IsHeld a → v.room ≡ Some (freeze_room name) → Some x ≡ a.room → x ≡ Freeze n at text → IsMethodAt a.methods.items name at × HoldsAt (λ (e : MethodEntry). e.draft ≡ text) a.methods.items at
+pub room-freeze : (a : Inside) (v : TablesValue) (name n : List ℕ) (at : ℕ) (text : List ℕ) (x : Taken) → tables_held a ≡ v → IsHeld a → v.room ≡ Some (freeze_room name) → Some x ≡ a.room → x ≡ Freeze n at text → IsMethodAt a.methods.entries.items name at × HoldsAt (λ (e : HeldMethod). e.value.draft ≡ text) a.methods.entries.items at
 room-freeze a v name n at text x view_is held is taken same =
     let shown : room_shown (Freeze n at text) ≡ freeze_room name = ap room_shown (sym same) ∙ room_name a v (freeze_room name) x view_is is taken in
     let one : n ≡ name = cc in
     let room = HasRoom-taken a x (Freeze n at text) held taken same in
-    (subst (λ m. IsMethodAt a.methods.items m at) one room.0, λ d. (room.1 d).0)
+    (subst (λ m. IsMethodAt a.methods.entries.items m at) one room.0, λ d. (room.1 d).0)
 
 -- b is a with this draft and these versions of a method, so many more than before
 pub record PutsMethod (a b : Inside) (name draft : List ℕ) (versions : List (List ℕ)) (more : ℕ) : Type 0 where
-  pub methods : map method_shown b.methods.items ≡ placed method_name (map method_shown a.methods.items) (record { name = name; draft = draft; versions = versions })
+  pub methods : map method_shown b.methods.entries.items ≡ placed method_name (map method_shown a.methods.entries.items) (record { name = name; draft = draft; versions = versions })
   pub grown : length versions ≡ length (texts_of (state_held a) name) + more
   pub method_versions : b.method_versions ≡ a.method_versions + more
-  pub traces : b.traces.items ≡ a.traces.items
+  pub traces : b.traces.entries.items ≡ a.traces.entries.items
   pub trace_versions : b.trace_versions ≡ a.trace_versions
   pub samples : b.samples ≡ a.samples
   pub room : b.room ≡ None
 
-module _ (a : Inside) (name : List ℕ) (at : ℕ) (e : MethodEntry) where
-  -- what is read of a method that is there
-  pub texts_of-read : (r : MethodEntry) → IsMethodAt a.methods.items name at → r ≡ get_or a.methods.items at r → texts_of (state_held a) name ≡ r.versions.items
-  texts_of-read r stands read = texts_of-found (state_held a) name _ (method_named-at a (tables_held a) refl name at a.methods.items r refl stands read)
+-- an entry of a method that is placed is seen as one with its name and its texts
+placed_method : (hs : List HeldMethod) (e : HeldMethod) (name draft : List ℕ) (versions : List (List ℕ)) → e.name ≡ name → e.value.draft ≡ draft → e.value.versions.items ≡ versions →
+    map method_shown (placed held_name hs e) ≡ placed method_name (map method_shown hs) (record { name = name; draft = draft; versions = versions })
+placed_method hs e name draft versions named drafted are =
+    map-placed method_shown method_name hs e ∙ ap (placed method_name (map method_shown hs)) (method_eq e.name name e.value.draft draft e.value.versions.items versions named drafted are)
 
-  pub draft_of-read : (r : MethodEntry) → IsMethodAt a.methods.items name at → r ≡ get_or a.methods.items at r → draft_of (state_held a) name ≡ Some r.draft
-  draft_of-read r stands read = draft_of-found (state_held a) name _ (method_named-at a (tables_held a) refl name at a.methods.items r refl stands read)
+module _ (a : Inside) (name : List ℕ) (at : ℕ) where
+  -- what is read of a method that is there
+  method_read : (r : HeldMethod) → IsMethodAt a.methods.entries.items name at → r ≡ get_or a.methods.entries.items at r → method_named (state_held a) name ≡ Some (method_shown r)
+  method_read r stands read = method_named-held a (tables_held a) refl name ∙ ap (option_map method_shown) (named-stands held_name a.methods.entries.items name at r stands ∙ ap Some (sym read))
+
+  pub texts_of-read : (r : HeldMethod) → IsMethodAt a.methods.entries.items name at → r ≡ get_or a.methods.entries.items at r → texts_of (state_held a) name ≡ r.value.versions.items
+  texts_of-read r stands read = texts_of-found (state_held a) name _ (method_read r stands read)
+
+  pub draft_of-read : (r : HeldMethod) → IsMethodAt a.methods.entries.items name at → r ≡ get_or a.methods.entries.items at r → draft_of (state_held a) name ≡ Some r.value.draft
+  draft_of-read r stands read = draft_of-found (state_held a) name _ (method_read r stands read)
 
   -- another entry of a method that is there
-  pub puts_entry : (r : MethodEntry) (draft : List ℕ) (versions : List (List ℕ)) → IsMethodAt a.methods.items name at → r ≡ get_or a.methods.items at r → e.name ≡ r.name → e.draft ≡ draft → e.versions.items ≡ versions →
-      map method_shown (set a.methods.items at e) ≡ placed method_name (map method_shown a.methods.items) (record { name = name; draft = draft; versions = versions })
-  puts_entry r draft versions stands read named drafted versioned =
-      let entry : NamedMethod = record { name = name; draft = draft; versions = versions } in
-      let same_name : e.name ≡ name = named ∙ read_name method_shown method_name a.methods.items name at r stands read in
-      let shown : method_shown e ≡ entry = method_eq e.name name e.draft draft e.versions.items versions same_name drafted versioned in
-      map-set method_shown a.methods.items at e ∙ ap (set (map method_shown a.methods.items) at) shown ∙ sym (placed-stands method_name (map method_shown a.methods.items) entry at stands)
+  pub puts_entry : (e r : HeldMethod) (draft : List ℕ) (versions : List (List ℕ)) → IsMethodAt a.methods.entries.items name at → r ≡ get_or a.methods.entries.items at r → e.name ≡ r.name → e.value.draft ≡ draft → e.value.versions.items ≡ versions →
+      map method_shown (set a.methods.entries.items at e) ≡ placed method_name (map method_shown a.methods.entries.items) (record { name = name; draft = draft; versions = versions })
+  puts_entry e r draft versions stands read named drafted versioned =
+      let same_name : e.name ≡ name = named ∙ read_name a.methods.entries.items name at r stands read in
+      let here : StandsAt held_name a.methods.entries.items e.name at = subst (λ n. StandsAt held_name a.methods.entries.items n at) (sym same_name) stands in
+      ap (map method_shown) (sym (placed-stands held_name a.methods.entries.items e at here))
+      ∙ placed_method a.methods.entries.items e name draft versions same_name drafted versioned
 
   -- the entry of a new method
-  pub puts_method : (draft : List ℕ) → IsMethodGap a.methods.items name at → e.name ≡ name → e.draft ≡ draft → e.versions.items ≡ [] →
-      map method_shown (insert a.methods.items at e) ≡ placed method_name (map method_shown a.methods.items) (record { name = name; draft = draft; versions = texts_of (state_held a) name })
-  puts_method draft gap named drafted none =
-      let versions = texts_of (state_held a) name in
-      let entry : NamedMethod = record { name = name; draft = draft; versions = versions } in
-      let no_texts : versions ≡ [] = texts_of-found (state_held a) name _ (method_named-gap a (tables_held a) refl name at a.methods.items refl gap) in
-      let shown : method_shown e ≡ entry = method_eq e.name name e.draft draft e.versions.items versions named drafted (none ∙ sym no_texts) in
-      map-insert method_shown a.methods.items at e ∙ ap (insert (map method_shown a.methods.items) at) shown ∙ sym (placed-gap method_name (map method_shown a.methods.items) entry at gap)
+  pub puts_method : (texts : MethodTexts) (draft : List ℕ) → IsMethodGap a.methods.entries.items name at → texts.draft ≡ draft → texts.versions.items ≡ [] →
+      map method_shown (placed held_name a.methods.entries.items (record { name = name; value = texts })) ≡ placed method_name (map method_shown a.methods.entries.items) (record { name = name; draft = draft; versions = texts_of (state_held a) name })
+  puts_method texts draft gap drafted none =
+      let found = method_named-held a (tables_held a) refl name ∙ ap (option_map method_shown) (named-gap held_name a.methods.entries.items name at gap) in
+      let no_texts : texts_of (state_held a) name ≡ [] = texts_of-found (state_held a) name _ found in
+      placed_method a.methods.entries.items (record { name = name; value = texts }) name draft (texts_of (state_held a) name) refl drafted (none ∙ sym no_texts)
+
+-- a method that is put with its draft alone
+pub PutsMethod-new : (a b : Inside) (name : List ℕ) (at : ℕ) (texts : MethodTexts) (draft : List ℕ) → IsMethodGap a.methods.entries.items name at → texts.draft ≡ draft → texts.versions.items ≡ [] →
+    b.methods.entries.items ≡ placed held_name a.methods.entries.items (record { name = name; value = texts }) → b.method_versions ≡ a.method_versions →
+    b.traces.entries.items ≡ a.traces.entries.items → b.trace_versions ≡ a.trace_versions → b.samples ≡ a.samples → b.room ≡ None → PutsMethod a b name draft (texts_of (state_held a) name) 0
+PutsMethod-new a b name at texts draft gap drafted none put same traces versions samples room = record {
+  methods = ap (map method_shown) put ∙ puts_method a name at texts draft gap drafted none;
+  grown = omega arith;
+  method_versions = omega (arith, same);
+  traces = traces;
+  trace_versions = versions;
+  samples = samples;
+  room = room;
+}
 
 module _ (a b : Inside) (v : TablesValue) (view_is : tables_held a ≡ v) (name draft : List ℕ) (versions : List (List ℕ)) (more : ℕ) (puts : PutsMethod a b name draft versions more) (c : Change) (is : applied (state_held a) c ≡ with_method (state_held a) name draft versions) where
   -- what the tables then hold

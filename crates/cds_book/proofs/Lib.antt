@@ -1,4 +1,3 @@
-pub mod PlaceLaws
 pub mod LookLaws
 pub mod VersionLaws
 pub mod TraceLaws

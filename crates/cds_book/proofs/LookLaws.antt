@@ -1,46 +1,15 @@
--- What look-ups answer where a name stands at a place, and where it has a gap.
-use Rattle.std.proofs.Common.{◌≡◌, ◌∙◌, ℕ, List, [], length, get_or, map, Option, Some, None, option_map, unwrap_or, sym, ap, subst, arith, ◌<◌}
+-- What look-ups answer, by what is held under a name.
+use Rattle.std.proofs.Common.{◌≡◌, ◌∙◌, ℕ, ◌≤◌, List, [], length, map, Option, Some, None, option_map, unwrap_or, Vec, Global, sym, ap, subst, refl}
 use Rattle.std.specs.Option.{option_and_then}
-use Rattle.std.proofs.lemmas.List.{get_or-map, length-map}
-use Rattle.cds_book.specs.Held.{traces_shown, method_shown, tables_held, IsTraceAt, IsTraceGap, IsMethodAt, IsMethodGap, IsHeld}
-use Rattle.cds_book.specs.Kept.{IsTraceEntry, IsMethodEntry}
-use Rattle.cds_book.specs.Places.{named, StandsAt}
+use Rattle.std.proofs.lemmas.Simd.{map-map}
+use Rattle.cds_trace.specs.Signal.{Signal}
+use Rattle.cds_base.specs.Named.{named, AreRising}
+use Rattle.cds_base.proofs.NamedLaws.{named-map, named-All}
+use Rattle.cds_book.specs.Held.{HeldTraces, HeldMethod, held_name, traces_shown, method_shown, state_held, tables_held, IsHeld}
+use Rattle.cds_book.specs.Kept.{IsTables, IsTraceEntry, IsMethodEntry}
 use Rattle.cds_book.specs.Tables.{NamedTraces, NamedMethod, TablesState, TablesValue, numbered, traces_named, method_named, trace_of, trace_versions_of, signals_of, draft_of, method_of, method_versions_of, texts_of}
-use Rattle.cds_book.specs.declared.entry.TraceEntry.{TraceEntry}
-use Rattle.cds_book.specs.declared.entry.MethodEntry.{MethodEntry}
+use Rattle.cds_book.specs.declared.entry.MethodTexts.{MethodTexts}
 use Rattle.cds_book.specs.declared.tables.Tables.TheInside.{Inside}
-use Rattle.cds_book.proofs.PlaceLaws.{named-stands, named-gap}
-
--- what stands under a name, read from the list that holds it
-named-read : {H E : Type 0} (shown : H → E) (name_of : E → List ℕ) (hs : List H) (name : List ℕ) (at : ℕ) (r : H) → StandsAt name_of (map shown hs) name at → at < length hs → r ≡ get_or hs at r → named name_of (map shown hs) name ≡ Some (shown r)
-named-read shown name_of hs name at r stands below read =
-    named-stands name_of (map shown hs) name at (shown r) stands ∙ ap Some (get_or-map shown hs at r (shown r) below ∙ ap shown (sym read))
-
--- what stands under a name of tables that are held, where a search of the entries ended
-module _ (a : Inside) (v : TablesValue) (view_is : tables_held a ≡ v) (name : List ℕ) (at : ℕ) where
-  -- a trace name that is there
-  pub traces_named-at : (entries : List TraceEntry) (r : TraceEntry) → entries ≡ a.traces.items → IsTraceAt entries name at → r ≡ get_or a.traces.items at r → traces_named v.state name ≡ Some (traces_shown r)
-  traces_named-at entries r same stands read =
-      let here : IsTraceAt a.traces.items name at = subst (λ es. IsTraceAt es name at) same stands in
-      subst (λ (w : TablesValue). traces_named w.state name ≡ Some (traces_shown r)) view_is
-      (named-read traces_shown (λ (e : NamedTraces). e.name) a.traces.items name at r here (omega (arith, length-map a.traces.items traces_shown, here.within)) read)
-
-  -- a trace name that isn't there
-  pub traces_named-gap : (entries : List TraceEntry) → entries ≡ a.traces.items → IsTraceGap entries name at → traces_named v.state name ≡ None
-  traces_named-gap entries same gap = subst (λ (w : TablesValue). traces_named w.state name ≡ None) view_is
-      (named-gap (λ (e : NamedTraces). e.name) (map traces_shown a.traces.items) name at (subst (λ es. IsTraceGap es name at) same gap))
-
-  -- a method that is there
-  pub method_named-at : (entries : List MethodEntry) (r : MethodEntry) → entries ≡ a.methods.items → IsMethodAt entries name at → r ≡ get_or a.methods.items at r → method_named v.state name ≡ Some (method_shown r)
-  method_named-at entries r same stands read =
-      let here : IsMethodAt a.methods.items name at = subst (λ es. IsMethodAt es name at) same stands in
-      subst (λ (w : TablesValue). method_named w.state name ≡ Some (method_shown r)) view_is
-      (named-read method_shown (λ (e : NamedMethod). e.name) a.methods.items name at r here (omega (arith, length-map a.methods.items method_shown, here.within)) read)
-
-  -- a method that isn't there
-  pub method_named-gap : (entries : List MethodEntry) → entries ≡ a.methods.items → IsMethodGap entries name at → method_named v.state name ≡ None
-  method_named-gap entries same gap = subst (λ (w : TablesValue). method_named w.state name ≡ None) view_is
-      (named-gap (λ (e : NamedMethod). e.name) (map method_shown a.methods.items) name at (subst (λ es. IsMethodGap es name at) same gap))
 
 -- look-ups by what stands under a trace name
 module _ (t : TablesState) (name : List ℕ) (found : Option NamedTraces) (is : traces_named t name ≡ found) where
@@ -74,16 +43,63 @@ module _ (t : TablesState) (name : List ℕ) (found : Option NamedMethod) (is : 
   unfolding texts_of
   texts_of-found = ap (λ (o : Option NamedMethod). unwrap_or (option_map (λ entry. entry.versions) o) []) is
 
--- an entry that was read keeps the rules of entries
-module _ (a : Inside) (held : IsHeld a) (name : List ℕ) (at : ℕ) where
-  pub IsTraceEntry-at : (entries : List TraceEntry) (r : TraceEntry) → entries ≡ a.traces.items → IsTraceAt entries name at → r ≡ get_or a.traces.items at r → IsTraceEntry (traces_shown r)
-  IsTraceEntry-at entries r same stands read =
-      let here : IsTraceAt a.traces.items name at = subst (λ es. IsTraceAt es name at) same stands in
-      let below : at < length a.traces.items = omega (arith, length-map a.traces.items traces_shown, here.within) in
-      subst IsTraceEntry (get_or-map traces_shown a.traces.items at r (traces_shown r) below ∙ ap traces_shown (sym read)) (held.tables.traces at (traces_shown r) here.within)
+-- the names that are held rise
+pub rising_traces : (a : Inside) → IsHeld a → AreRising (map held_name a.traces.entries.items)
+rising_traces a held = subst AreRising (map-map (λ (e : NamedTraces). e.name) traces_shown a.traces.entries.items) held.tables.traces.names
 
-  pub IsMethodEntry-at : (entries : List MethodEntry) (r : MethodEntry) → entries ≡ a.methods.items → IsMethodAt entries name at → r ≡ get_or a.methods.items at r → IsMethodEntry (method_shown r)
-  IsMethodEntry-at entries r same stands read =
-      let here : IsMethodAt a.methods.items name at = subst (λ es. IsMethodAt es name at) same stands in
-      let below : at < length a.methods.items = omega (arith, length-map a.methods.items method_shown, here.within) in
-      subst IsMethodEntry (get_or-map method_shown a.methods.items at r (method_shown r) below ∙ ap method_shown (sym read)) (held.tables.methods at (method_shown r) here.within)
+pub rising_methods : (a : Inside) → IsHeld a → AreRising (map held_name a.methods.entries.items)
+rising_methods a held = subst AreRising (map-map (λ (e : NamedMethod). e.name) method_shown a.methods.entries.items) held.tables.methods.names
+
+-- what is held under a trace name, where a search of the list ended
+module _ (a : Inside) (v : TablesValue) (view_is : tables_held a ≡ v) (name : List ℕ) where
+  -- the entry is seen as what stands under the name
+  pub traces_named-held : traces_named v.state name ≡ option_map traces_shown (named held_name a.traces.entries.items name)
+  traces_named-held = subst (λ (w : TablesValue). traces_named w.state name ≡ option_map traces_shown (named held_name a.traces.entries.items name)) view_is
+      (named-map traces_shown (λ (e : NamedTraces). e.name) a.traces.entries.items name)
+
+  pub method_named-held : method_named v.state name ≡ option_map method_shown (named held_name a.methods.entries.items name)
+  method_named-held = subst (λ (w : TablesValue). method_named w.state name ≡ option_map method_shown (named held_name a.methods.entries.items name)) view_is
+      (named-map method_shown (λ (e : NamedMethod). e.name) a.methods.entries.items name)
+
+  -- there is none
+  pub traces_named-none : None ≡ option_map (λ (e : HeldTraces). e.value) (named held_name a.traces.entries.items name) → traces_named v.state name ≡ None
+  traces_named-none none = traces_named-held ∙ by_found (named held_name a.traces.entries.items name) none
+    where
+      by_found : (found : Option HeldTraces) → None ≡ option_map (λ (e : HeldTraces). e.value) found → option_map traces_shown found ≡ None
+      by_found None is = refl
+      by_found (Some e) is = cc
+
+  pub method_named-none : None ≡ option_map (λ (e : HeldMethod). e.value) (named held_name a.methods.entries.items name) → method_named v.state name ≡ None
+  method_named-none none = method_named-held ∙ by_found (named held_name a.methods.entries.items name) none
+    where
+      by_found : (found : Option HeldMethod) → None ≡ option_map (λ (e : HeldMethod). e.value) found → option_map method_shown found ≡ None
+      by_found None is = refl
+      by_found (Some e) is = cc
+
+  -- there is one, with these versions
+  pub traces_named-some : (versions : Vec Signal Global) → Some versions ≡ option_map (λ (e : HeldTraces). e.value) (named held_name a.traces.entries.items name)
+      → (n : List ℕ) × (traces_named v.state name ≡ Some (record { name = n; versions = versions.items }))
+  traces_named-some versions some = by_found (named held_name a.traces.entries.items name) some traces_named-held
+    where
+      by_found : (found : Option HeldTraces) → Some versions ≡ option_map (λ (e : HeldTraces). e.value) found → traces_named v.state name ≡ option_map traces_shown found
+          → (n : List ℕ) × (traces_named v.state name ≡ Some (record { name = n; versions = versions.items }))
+      by_found None is same = cc
+      by_found (Some e) is same = (e.name, let one : versions ≡ e.value = cc in rw one same)
+
+  pub method_named-some : (texts : MethodTexts) → Some texts ≡ option_map (λ (e : HeldMethod). e.value) (named held_name a.methods.entries.items name)
+      → (n : List ℕ) × (method_named v.state name ≡ Some (record { name = n; draft = texts.draft; versions = texts.versions.items }))
+  method_named-some texts some = by_found (named held_name a.methods.entries.items name) some method_named-held
+    where
+      by_found : (found : Option HeldMethod) → Some texts ≡ option_map (λ (e : HeldMethod). e.value) found → method_named v.state name ≡ option_map method_shown found
+          → (n : List ℕ) × (method_named v.state name ≡ Some (record { name = n; draft = texts.draft; versions = texts.versions.items }))
+      by_found None is same = cc
+      by_found (Some e) is same = (e.name, let one : texts ≡ e.value = cc in rw one same)
+
+  -- and it keeps the rules of entries
+  pub IsTraceEntry-found : IsHeld a → (entry : NamedTraces) → traces_named v.state name ≡ Some entry → IsTraceEntry entry
+  IsTraceEntry-found held entry is = named-All (λ (e : NamedTraces). e.name) IsTraceEntry v.state.traces name entry
+      (subst (λ (w : TablesValue). IsTables w.state) view_is held.tables).traces.each is
+
+  pub IsMethodEntry-found : IsHeld a → (entry : NamedMethod) → method_named v.state name ≡ Some entry → IsMethodEntry entry
+  IsMethodEntry-found held entry is = named-All (λ (e : NamedMethod). e.name) IsMethodEntry v.state.methods name entry
+      (subst (λ (w : TablesValue). IsTables w.state) view_is held.tables).methods.each is

@@ -16,7 +16,7 @@ use Rattle.cds_book.specs.declared.command.Change.TheVariants as change
 use Rattle.cds_book.specs.declared.command.Plan.TheVariants as plan
 use Rattle.cds_book.specs.declared.error.PlanError.TheVariants.{NoMethod, Number}
 use Rattle.cds_book.specs.declared.limits.TheConstants.{MOST_VERSIONS, MOST_METHODS, MOST_METHOD_VERSIONS}
-use Rattle.cds_book.proofs.PlaceLaws.{named-placed, named-All, All-placed, AreRising-placed, sum_by-placed, length-placed, bytes_eq-self}
+use Rattle.cds_base.proofs.NamedLaws.{named-placed, named-All, All-placed, AreRising-placed, sum_by-placed, length-placed, bytes_eq-self}
 use Rattle.cds_book.proofs.LookLaws.{draft_of-found, texts_of-found}
 use Rattle.cds_book.proofs.VersionLaws.{AreChanges-push, AreChanges-none, AreWithin, AreWithin-none, unless_full-ok, is_latest-push}
 use mir.Val.{bool_byte}
@@ -58,7 +58,7 @@ length_texts t name = by_found (method_named t name)
 -- what is kept of the texts of a name
 module _ (t : TablesState) (kept : IsTables t) (name : List ℕ) where
   kept_found : (e : NamedMethod) → method_named t name ≡ Some e → IsMethodEntry e
-  kept_found e is = named-All method_name IsMethodEntry t.methods name e kept.methods is
+  kept_found e is = named-All method_name IsMethodEntry t.methods name e kept.methods.each is
 
   pub All-texts : All IsMethod (texts_of t name)
   unfolding texts_of
@@ -99,7 +99,7 @@ module _ (t : TablesState) (kept : IsTables t) (name draft : List ℕ) (versions
   unfolding draft_of
   methods-with =
       let entry : NamedMethod = record { name = name; draft = draft; versions = versions } in
-      let change = length-placed method_name t.methods entry kept.method_names in
+      let change = length-placed method_name t.methods entry kept.methods.names in
       let there : option_map_or (λ (_ : NamedMethod). 1) (method_named t name) 0 + bool_byte (is_none (draft_of t name)) ≡ 1 = by_found (method_named t name) in
       omega (arith, change, there)
     where
@@ -111,7 +111,7 @@ module _ (t : TablesState) (kept : IsTables t) (name draft : List ℕ) (versions
   pub method_versions-with : (more : ℕ) → length versions ≡ length (texts_of t name) + more → method_versions_in_all (with_method t name draft versions).methods ≡ method_versions_in_all t.methods + more
   method_versions-with more grown =
       let entry : NamedMethod = record { name = name; draft = draft; versions = versions } in
-      let change = sum_by-placed method_name (λ (e : NamedMethod). length e.versions) t.methods entry kept.method_names in
+      let change = sum_by-placed method_name (λ (e : NamedMethod). length e.versions) t.methods entry kept.methods.names in
       omega (arith, change, length_texts t name, grown)
 
 -- what a draft is answered, by the draft that is there and by the counts that it raises
@@ -157,15 +157,13 @@ IsTables-draft t name text kept accepts =
     } in
     let same = method_versions-with t kept name text versions 0 (omega arith) in
     let all : IsTables after = record {
-      trace_names = kept.trace_names;
       traces = kept.traces;
-      few_traces = kept.few_traces;
-      few_trace_versions = kept.few_trace_versions;
-      few_samples = kept.few_samples;
-      method_names = AreRising-placed method_name t.methods entry kept.method_names;
-      methods = All-placed method_name IsMethodEntry t.methods entry kept.methods kept_entry;
-      few_methods = few;
-      few_method_versions = omega (arith, same, kept.few_method_versions);
+      methods = record {
+        names = AreRising-placed method_name t.methods entry kept.methods.names;
+        each = All-placed method_name IsMethodEntry t.methods entry kept.methods.each kept_entry;
+        few = few;
+        few_versions = let most = kept.methods.few_versions in omega (arith, same, most);
+      };
     } in
     subst IsTables (sym is) all
 
@@ -274,15 +272,13 @@ IsTables-freeze t name version kept accepts =
     let there : bool_byte (is_none (draft_of t name)) ≡ 0 = ap (λ o. bool_byte (is_none o)) new.is in
     let many = methods-with t kept name new.draft texts in
     let all : IsTables after = record {
-      trace_names = kept.trace_names;
       traces = kept.traces;
-      few_traces = kept.few_traces;
-      few_trace_versions = kept.few_trace_versions;
-      few_samples = kept.few_samples;
-      method_names = AreRising-placed method_name t.methods entry kept.method_names;
-      methods = All-placed method_name IsMethodEntry t.methods entry kept.methods kept_entry;
-      few_methods = omega (arith, many, there, kept.few_methods);
-      few_method_versions = within.1.0;
+      methods = record {
+        names = AreRising-placed method_name t.methods entry kept.methods.names;
+        each = All-placed method_name IsMethodEntry t.methods entry kept.methods.each kept_entry;
+        few = let most = kept.methods.few in omega (arith, many, there, most);
+        few_versions = within.1.0;
+      };
     } in
     subst IsTables (sym is) all
 

@@ -1,15 +1,16 @@
 -- What stands under other names than that of a change stays what it was.
-use Rattle.std.proofs.Common.{◌≡◌, ◌∙◌, ℕ, false, inl, inr, List, [], ◌∷◌, ◌++◌, Option, Some, None, refl, sym}
+use Rattle.std.proofs.Common.{◌≡◌, ◌∙◌, ℕ, false, inl, inr, List, [], ◌∷◌, ◌++◌, Option, Some, None, refl, sym, ap}
 use Rattle.std.specs.Prelude.{◌≢◌}
 use Rattle.std.specs.Str.{bytes_eq}
 use Rattle.std.proofs.lemmas.Bool.{cases_Bool}
 use Rattle.std.proofs.lemmas.Slice.Eq.{bytes_eq-Decides}
 use Rattle.cds_trace.specs.Signal.{Signal}
-use Rattle.cds_book.specs.Plan.{applied, with_signals, with_method, with_frozen, name_of_change}
-use Rattle.cds_book.specs.Tables.{NamedTraces, NamedMethod, TablesState, traces_named, method_named, signals_of, draft_of, texts_of}
+use Rattle.cds_book.specs.Plan.{applied, with_signals, with_method, with_frozen, trace_changed, method_changed}
+use Rattle.cds_book.specs.Tables.{NamedTraces, NamedMethod, TablesState, method_named, signals_of, draft_of, texts_of}
 use Rattle.cds_book.specs.declared.command.Change.{Change}
 use Rattle.cds_book.specs.declared.command.Change.TheVariants as change
-use Rattle.cds_book.proofs.PlaceLaws.{named-placed_other}
+use Rattle.cds_base.specs.Named.{named}
+use Rattle.cds_base.proofs.NamedLaws.{named-placed_other}
 use Rattle.cds_book.proofs.LookLaws.{signals_of-found, draft_of-found, texts_of-found}
 use Rattle.cds_book.proofs.TraceLaws.{trace_name}
 use Rattle.cds_book.proofs.MethodLaws.{method_name}
@@ -21,38 +22,60 @@ bytes_eq-other put name differs = elim (cases_Bool (bytes_eq put name)) [
   | inr other ↦ other
 ]
 
--- what is looked up of s under this name is what is looked up of t
-abbrev pub AreSame : TablesState → TablesState → List ℕ → Type 0
-AreSame s t name = (signals_of s name ≡ signals_of t name) × (draft_of s name ≡ draft_of t name) × (texts_of s name ≡ texts_of t name)
-
--- it is the same where what stands under the name is
-AreSame-found : (s t : TablesState) (name : List ℕ) → traces_named s name ≡ traces_named t name → method_named s name ≡ method_named t name → AreSame s t name
-AreSame-found s t name traces methods = (
-  signals_of-found s name _ traces ∙ sym (signals_of-found t name _ refl),
-  draft_of-found s name _ methods ∙ sym (draft_of-found t name _ refl),
-  texts_of-found s name _ methods ∙ sym (texts_of-found t name _ refl),
-)
-
--- a trace that is put leaves other names
-AreSame-signals : (t : TablesState) (put name : List ℕ) (versions : List Signal) → name ≢ put → AreSame (with_signals t put versions) t name
-AreSame-signals t put name versions differs =
+-- a trace that is put leaves other traces
+signals_of-other : (t : TablesState) (put name : List ℕ) (versions : List Signal) → name ≢ put → signals_of (with_signals t put versions) name ≡ signals_of t name
+signals_of-other t put name versions differs =
     let entry : NamedTraces = record { name = put; versions = versions } in
-    AreSame-found (with_signals t put versions) t name (named-placed_other trace_name t.traces entry name (bytes_eq-other put name differs)) refl
+    signals_of-found (with_signals t put versions) name _ (named-placed_other trace_name t.traces entry name (bytes_eq-other put name differs)) ∙ sym (signals_of-found t name _ refl)
 
--- so does a method
-AreSame-method : (t : TablesState) (put name draft : List ℕ) (versions : List (List ℕ)) → name ≢ put → AreSame (with_method t put draft versions) t name
-AreSame-method t put name draft versions differs =
+-- the texts under this name are the same
+abbrev pub AreSameTexts : TablesState → TablesState → List ℕ → Type 0
+AreSameTexts s t name = (draft_of s name ≡ draft_of t name) × (texts_of s name ≡ texts_of t name)
+
+-- a method that is put leaves other methods
+texts-other : (t : TablesState) (put name draft : List ℕ) (versions : List (List ℕ)) → name ≢ put → AreSameTexts (with_method t put draft versions) t name
+texts-other t put name draft versions differs =
     let entry : NamedMethod = record { name = put; draft = draft; versions = versions } in
-    AreSame-found (with_method t put draft versions) t name refl (named-placed_other method_name t.methods entry name (bytes_eq-other put name differs))
+    let same : method_named (with_method t put draft versions) name ≡ method_named t name = named-placed_other method_name t.methods entry name (bytes_eq-other put name differs) in (
+      draft_of-found (with_method t put draft versions) name _ same ∙ sym (draft_of-found t name _ refl),
+      texts_of-found (with_method t put draft versions) name _ same ∙ sym (texts_of-found t name _ refl),
+    )
 
--- and a freeze
-AreSame-frozen : (t : TablesState) (put name : List ℕ) (draft : Option (List ℕ)) → name ≢ put → AreSame (with_frozen t put draft) t name
-AreSame-frozen t put name None differs = (refl, refl, refl)
-AreSame-frozen t put name (Some draft) differs = AreSame-method t put name draft (texts_of t put ++ draft ∷ []) differs
+-- so does a freeze
+texts-frozen : (t : TablesState) (put name : List ℕ) (draft : Option (List ℕ)) → name ≢ put → AreSameTexts (with_frozen t put draft) t name
+texts-frozen t put name None differs = (refl, refl)
+texts-frozen t put name (Some draft) differs = texts-other t put name draft (texts_of t put ++ draft ∷ []) differs
 
--- whatever is changed, what stands under other names stays
-pub other_names : (t : TablesState) (c : Change) (name : List ℕ) → name ≢ name_of_change c → AreSame (applied t c) t name
+-- tables with the same lists of traces, or of methods, have the same under each name
+signals_of-same : (s t : TablesState) (name : List ℕ) → s.traces ≡ t.traces → signals_of s name ≡ signals_of t name
+signals_of-same s t name same = signals_of-found s name _ (ap (λ ts. named trace_name ts name) same) ∙ sym (signals_of-found t name _ refl)
+
+texts-same : (s t : TablesState) (name : List ℕ) → s.methods ≡ t.methods → AreSameTexts s t name
+texts-same s t name same =
+    let one : method_named s name ≡ method_named t name = ap (λ ms. named method_name ms name) same in (
+      draft_of-found s name _ one ∙ sym (draft_of-found t name _ refl),
+      texts_of-found s name _ one ∙ sym (texts_of-found t name _ refl),
+    )
+
+-- a freeze leaves all traces
+traces-frozen : (t : TablesState) (put : List ℕ) (draft : Option (List ℕ)) → (with_frozen t put draft).traces ≡ t.traces
+traces-frozen t put None = refl
+traces-frozen t put (Some draft) = refl
+
+-- a name is another than the one that is changed
+differs-some : (put name : List ℕ) → Some name ≢ Some put → name ≢ put
+differs-some put name differs = λ same. differs (ap Some same)
+
+-- a change leaves the versions of each trace that it doesn't change
+pub other_traces : (t : TablesState) (c : Change) (name : List ℕ) → Some name ≢ trace_changed c → signals_of (applied t c) name ≡ signals_of t name
 unfolding applied
-other_names t (change.Trace put signal) name differs = AreSame-signals t put name (signals_of t put ++ signal ∷ []) differs
-other_names t (change.Draft put text) name differs = AreSame-method t put name text (texts_of t put) differs
-other_names t (change.Freeze put version) name differs = AreSame-frozen t put name (draft_of t put) differs
+other_traces t (change.Trace put signal) name differs = signals_of-other t put name (signals_of t put ++ signal ∷ []) (differs-some put name differs)
+other_traces t (change.Draft put text) name differs = signals_of-same (with_method t put text (texts_of t put)) t name refl
+other_traces t (change.Freeze put version) name differs = signals_of-same (with_frozen t put (draft_of t put)) t name (traces-frozen t put (draft_of t put))
+
+-- and the draft and the versions of each method that it doesn't change
+pub other_methods : (t : TablesState) (c : Change) (name : List ℕ) → Some name ≢ method_changed c → AreSameTexts (applied t c) t name
+unfolding applied
+other_methods t (change.Trace put signal) name differs = texts-same (with_signals t put (signals_of t put ++ signal ∷ [])) t name refl
+other_methods t (change.Draft put text) name differs = texts-other t put name text (texts_of t put) (differs-some put name differs)
+other_methods t (change.Freeze put version) name differs = texts-frozen t put name (draft_of t put) (differs-some put name differs)

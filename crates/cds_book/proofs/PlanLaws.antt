@@ -1,9 +1,10 @@
 -- What holds of every change: it is that of its command, it keeps the rules, and repeating it changes nothing.
-use Rattle.std.proofs.Common.{◌≡◌, ◌∙◌, ℕ, ◌+◌, Bool, true, false, cond, ◌==◌, List, length, Option, Some, None, Result, Ok, Err, sym, ap, subst}
+use Rattle.std.proofs.Common.{◌≡◌, ◌∙◌, ℕ, ◌+◌, ◌≤◌, Bool, true, false, cond, ◌==◌, inl, inr, List, [], ◌∷◌, ◌++◌, length, Option, Some, None, Result, Ok, Err, refl, sym, ap, subst, arith}
 use Rattle.std.specs.Option.{option_map_or}
 use Rattle.std.specs.Str.{bytes_eq}
+use Rattle.cds_base.specs.Answers.{Gives}
 use Rattle.cds_book.specs.Kept.{IsTables}
-use Rattle.cds_book.specs.Plan.{planned, applied, counts_of, limit_passed, unless_full, freeze_planned, same_signal, is_latest, command_of, Answers, AnswersAccepted, IsCommand, Accepts}
+use Rattle.cds_book.specs.Plan.{planned, applied, counts_of, limit_passed, unless_full, freeze_planned, same_signal, is_latest, command_of, AnswersAccepted, IsCommand, Accepts}
 use Rattle.cds_book.specs.Tables.{TablesState, signals_of, draft_of, texts_of}
 use Rattle.cds_book.specs.declared.command.Command.{Command}
 use Rattle.cds_book.specs.declared.command.Command.TheVariants as command
@@ -12,9 +13,13 @@ use Rattle.cds_book.specs.declared.command.Change.TheVariants as change
 use Rattle.cds_book.specs.declared.command.Plan.{Plan}
 use Rattle.cds_book.specs.declared.command.Plan.TheVariants as plan
 use Rattle.cds_book.specs.declared.error.PlanError.{PlanError}
-use Rattle.cds_book.specs.declared.error.PlanError.TheVariants.{Number}
+use Rattle.cds_book.specs.declared.error.PlanError.TheVariants.{NoMemory, Number}
 use Rattle.cds_book.proofs.TraceLaws.{IsTables-trace, planned-trace_again}
-use Rattle.cds_book.proofs.MethodLaws.{IsTables-draft, IsTables-freeze, IsNewText-accepted, planned-draft_again, planned-freeze_again}
+use Rattle.std.proofs.lemmas.Bool.{cases_eq}
+use Rattle.std.proofs.lemmas.List.{length-append}
+use Rattle.cds_book.specs.declared.limits.TheConstants.{MOST_VERSIONS}
+use Rattle.cds_book.proofs.VersionLaws.{AreWithin}
+use Rattle.cds_book.proofs.MethodLaws.{applied-freeze, texts_of-with, planned-other_number, IsTables-draft, IsTables-freeze, IsNewText-accepted, planned-draft_again, planned-freeze_again}
 
 -- what is planned within the limits is the change that was asked
 unless_full-change : (limit : Option ℕ) (asked c : Change) → unless_full limit asked ≡ Ok (plan.Change c) → asked ≡ c
@@ -57,7 +62,7 @@ command_of-planned t (command.Draft name text) c is =
 command_of-planned t (command.Freeze name version) c is = ap command_of (sym (freeze-change t name version (draft_of t name) c is))
 
 -- a change that is answered is accepted
-pub AnswersAccepted-planned : (t : TablesState) (asked : Command) (r : Result Plan PlanError) → IsCommand asked → Answers r (planned t asked) → AnswersAccepted t r
+pub AnswersAccepted-planned : (t : TablesState) (asked : Command) (r : Result Plan PlanError) → IsCommand asked → Gives NoMemory (λ p. p) (planned t asked) r → AnswersAccepted t r
 AnswersAccepted-planned t asked (Ok plan.Unchanged) fit answers = tt
 AnswersAccepted-planned t asked (Ok (plan.Change c)) fit answers =
     let same : command_of c ≡ asked = command_of-planned t asked c answers in
@@ -75,3 +80,25 @@ pub planned-again : (t : TablesState) (c : Change) → Accepts t c → planned (
 planned-again t (change.Trace name signal) accepts = planned-trace_again t name signal
 planned-again t (change.Draft name text) accepts = planned-draft_again t name text
 planned-again t (change.Freeze name version) accepts = let new = IsNewText-accepted t name version accepts in planned-freeze_again t name version version new.draft new.is
+
+-- an accepted freeze names the next version
+next_version : (t : TablesState) (name : List ℕ) (version : ℕ) → Accepts t (change.Freeze name version) → version ≡ length (texts_of t name) + 1
+next_version t name version accepts =
+    let new = IsNewText-accepted t name version accepts in
+    elim (cases_eq version (length (texts_of t name) + 1)) [
+      | inl next ↦ next
+      | inr differs ↦
+          let refused = planned-other_number t name version new.draft (sym new.is) (texts_of t name) refl _ (sym new.other) refl differs in
+          let contrary : Err (Number (length (texts_of t name) + 1)) ≡ Ok (plan.Change (change.Freeze name version)) = sym refused ∙ accepts.accepted in
+          cc
+    ]
+
+-- and none past the most that a method may have
+pub freeze-numbered : (t : TablesState) (name : List ℕ) (version : ℕ) → Accepts t (change.Freeze name version) → (1 ≤ version) × (version ≤ MOST_VERSIONS)
+freeze-numbered t name version accepts =
+    let new = IsNewText-accepted t name version accepts in
+    let next = next_version t name version accepts in
+    let texts = texts_of t name ++ new.draft ∷ [] in
+    let within = subst (λ s. AreWithin (counts_of (change.Freeze name version) s)) (applied-freeze t name version new.draft new.is) new.within in
+    let few : length texts ≤ MOST_VERSIONS = subst (λ (ts : List (List ℕ)). length ts ≤ MOST_VERSIONS) (texts_of-with t name new.draft texts) within.0 in
+    (omega (arith, next), omega (arith, next, few, length-append (texts_of t name) (new.draft ∷ [])))

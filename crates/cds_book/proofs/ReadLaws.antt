@@ -6,7 +6,7 @@ use Rattle.cds_trace.specs.Signal.{Signal}
 use Rattle.cds_book.specs.Plan.{applied, with_signals, with_method, Accepts}
 use Rattle.cds_book.specs.Tables.{NamedTraces, TablesState, numbered, trace_of, trace_versions_of, signals_of, draft_of, method_of, texts_of}
 use Rattle.cds_book.specs.declared.command.Change.TheVariants as change
-use Rattle.cds_book.proofs.PlaceLaws.{named-placed}
+use Rattle.cds_base.proofs.NamedLaws.{named-placed}
 use Rattle.cds_book.proofs.LookLaws.{trace_of-found, method_of-found}
 use Rattle.cds_book.proofs.VersionLaws.{latest-push}
 use Rattle.cds_book.proofs.TraceLaws.{trace_name, applied-trace}

@@ -7,12 +7,12 @@ use Rattle.std.proofs.lemmas.List.{get_or_append_left, length-append}
 use Rattle.std.proofs.lemmas.Option.{slice_get-get_or, slice_get_within}
 use Rattle.std.proofs.lemmas.Slice.Eq.{bytes_eq-Decides}
 use Rattle.cds_trace.specs.Signal.{Signal}
-use Rattle.cds_book.specs.Places.{named}
+use Rattle.cds_base.specs.Named.{named}
 use Rattle.cds_book.specs.Plan.{applied, with_signals, with_method, with_frozen, Accepts}
 use Rattle.cds_book.specs.Tables.{NamedTraces, NamedMethod, TablesState, numbered, traces_named, method_named, trace_of, trace_versions_of, signals_of, draft_of, method_of, method_versions_of, texts_of}
 use Rattle.cds_book.specs.declared.command.Change.{Change}
 use Rattle.cds_book.specs.declared.command.Change.TheVariants as change
-use Rattle.cds_book.proofs.PlaceLaws.{named-placed, named-placed_other}
+use Rattle.cds_base.proofs.NamedLaws.{named-placed, named-placed_other}
 use Rattle.cds_book.proofs.LookLaws.{trace_of-found, trace_versions_of-found, method_of-found, method_versions_of-found}
 use Rattle.cds_book.proofs.TraceLaws.{trace_name, applied-trace}
 use Rattle.cds_book.proofs.MethodLaws.{method_name, method_named-with, applied-draft, applied-freeze, IsNewText-accepted}

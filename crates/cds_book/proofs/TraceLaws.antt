@@ -13,7 +13,7 @@ use Rattle.cds_book.specs.declared.command.Command.TheVariants as command
 use Rattle.cds_book.specs.declared.command.Change.TheVariants as change
 use Rattle.cds_book.specs.declared.command.Plan.TheVariants as plan
 use Rattle.cds_book.specs.declared.limits.TheConstants.{MOST_TRACE_NAMES, MOST_VERSIONS, MOST_TRACE_VERSIONS, MOST_SAMPLES_IN_ALL}
-use Rattle.cds_book.proofs.PlaceLaws.{named-placed, named-All, All-placed, AreRising-placed, sum_by-placed, length-placed}
+use Rattle.cds_base.proofs.NamedLaws.{named-placed, named-All, All-placed, AreRising-placed, sum_by-placed, length-placed}
 use Rattle.cds_book.proofs.LookLaws.{signals_of-found}
 use Rattle.cds_book.proofs.VersionLaws.{same_signal-Decides, AreChanges-push, AreChanges-none, AreWithin, AreWithin-none, unless_full-ok, is_latest-push}
 
@@ -59,7 +59,7 @@ module _ (t : TablesState) (kept : IsTables t) (name : List ℕ) (signal : Signa
       sum_by (λ (e : NamedTraces). f e.versions) (with_signals t name (signals_of t name ++ signal ∷ [])).traces ≡ sum_by (λ (e : NamedTraces). f e.versions) t.traces + more
   sum_by-trace f more nothing grown =
       let entry : NamedTraces = record { name = name; versions = signals_of t name ++ signal ∷ [] } in
-      let change = sum_by-placed trace_name (λ (e : NamedTraces). f e.versions) t.traces entry kept.trace_names in
+      let change = sum_by-placed trace_name (λ (e : NamedTraces). f e.versions) t.traces entry kept.traces.names in
       omega (arith, change, by_versions f t name nothing, grown)
 
   pub trace_versions-trace : trace_versions_in_all (with_signals t name (signals_of t name ++ signal ∷ [])).traces ≡ trace_versions_in_all t.traces + 1
@@ -73,13 +73,13 @@ module _ (t : TablesState) (kept : IsTables t) (name : List ℕ) (signal : Signa
   unfolding signals_of
   names-trace =
       let entry : NamedTraces = record { name = name; versions = signals_of t name ++ signal ∷ [] } in
-      let change = length-placed trace_name t.traces entry kept.trace_names in
+      let change = length-placed trace_name t.traces entry kept.traces.names in
       let there : option_map_or (λ (_ : NamedTraces). 1) (traces_named t name) 0 + new_name (signals_of t name) ≡ 1 = by_found (traces_named t name) refl in
       omega (arith, change, there)
     where
       by_found : (found : Option NamedTraces) → traces_named t name ≡ found → option_map_or (λ (_ : NamedTraces). 1) found 0 + new_name (unwrap_or (option_map (λ (e : NamedTraces). e.versions) found) []) ≡ 1
       by_found None is = refl
-      by_found (Some e) is = some_versions e.versions (named-All trace_name IsTraceEntry t.traces name e kept.traces is).some
+      by_found (Some e) is = some_versions e.versions (named-All trace_name IsTraceEntry t.traces name e kept.traces.each is).some
 
   -- the counts that a trace raises
   pub counts-trace : counts_of (change.Trace name signal) (applied t (change.Trace name signal)) ≡
@@ -132,7 +132,7 @@ AreChanges-signals t kept name = by_found (traces_named t name) refl
   where
     by_found : (found : Option NamedTraces) → traces_named t name ≡ found → AreChanges (unwrap_or (option_map (λ (e : NamedTraces). e.versions) found) [])
     by_found None is = AreChanges-none
-    by_found (Some e) is = (named-All trace_name IsTraceEntry t.traces name e kept.traces is).changes
+    by_found (Some e) is = (named-All trace_name IsTraceEntry t.traces name e kept.traces.each is).changes
 
 -- all rules are kept when an accepted trace is put
 pub IsTables-trace : (t : TablesState) (name : List ℕ) (signal : Signal) → IsTables t → Accepts t (change.Trace name signal) → IsTables (applied t (change.Trace name signal))
@@ -150,15 +150,14 @@ IsTables-trace t name signal kept accepts =
       changes = AreChanges-push same_signal same_signal-Decides (signals_of t name) signal (AreChanges-signals t kept name) new.other;
     } in
     let all : IsTables after = record {
-      trace_names = AreRising-placed trace_name t.traces entry kept.trace_names;
-      traces = All-placed trace_name IsTraceEntry t.traces entry kept.traces kept_entry;
-      few_traces = within.0;
-      few_trace_versions = within.1.1.0;
-      few_samples = within.1.1.1.0;
-      method_names = kept.method_names;
+      traces = record {
+        names = AreRising-placed trace_name t.traces entry kept.traces.names;
+        each = All-placed trace_name IsTraceEntry t.traces entry kept.traces.each kept_entry;
+        few = within.0;
+        few_versions = within.1.1.0;
+        few_samples = within.1.1.1.0;
+      };
       methods = kept.methods;
-      few_methods = kept.few_methods;
-      few_method_versions = kept.few_method_versions;
     } in
     subst IsTables (sym is) all
 

@@ -2,7 +2,7 @@
 use Rattle.std.specs.Prelude.{◌≢◌, ℕ, ◌≤◌, List, All, IsTrue, is_ok, length, map, sum_by}
 use Rattle.std.specs.List.{AllAdjacentBelow}
 use Rattle.cds_rules.specs.Stated.{stated}
-use Rattle.cds_book.specs.Places.{AreRising}
+use Rattle.cds_base.specs.Named.{AreRising}
 use Rattle.cds_book.specs.Tables.{NamedTraces, NamedMethod, TablesState}
 use Rattle.cds_book.specs.declared.limits.TheConstants.{MOST_TRACE_NAMES, MOST_VERSIONS, MOST_TRACE_VERSIONS, MOST_SAMPLES_IN_ALL, MOST_METHODS, MOST_METHOD_VERSIONS}
 
@@ -40,14 +40,22 @@ pub record IsMethodEntry (entry : NamedMethod) : Type 0 where
   pub few : length entry.versions ≤ MOST_VERSIONS
   pub changes : AreChanges entry.versions
 
--- what all tables keep: names rise in byte order, each entry keeps its rules, and no count passes its limit
+-- what is kept of all traces: names rise in byte order, each keeps its rules, and no count passes its limit
+pub record IsTraces (traces : List NamedTraces) : Type 0 where
+  pub names : AreRising (map (λ entry. entry.name) traces)
+  pub each : All IsTraceEntry traces
+  pub few : length traces ≤ MOST_TRACE_NAMES
+  pub few_versions : trace_versions_in_all traces ≤ MOST_TRACE_VERSIONS
+  pub few_samples : samples_in_all traces ≤ MOST_SAMPLES_IN_ALL
+
+-- and of all methods
+pub record IsMethods (methods : List NamedMethod) : Type 0 where
+  pub names : AreRising (map (λ entry. entry.name) methods)
+  pub each : All IsMethodEntry methods
+  pub few : length methods ≤ MOST_METHODS
+  pub few_versions : method_versions_in_all methods ≤ MOST_METHOD_VERSIONS
+
+-- what all tables keep
 pub record IsTables (tables : TablesState) : Type 0 where
-  pub trace_names : AreRising (map (λ entry. entry.name) tables.traces)
-  pub traces : All IsTraceEntry tables.traces
-  pub few_traces : length tables.traces ≤ MOST_TRACE_NAMES
-  pub few_trace_versions : trace_versions_in_all tables.traces ≤ MOST_TRACE_VERSIONS
-  pub few_samples : samples_in_all tables.traces ≤ MOST_SAMPLES_IN_ALL
-  pub method_names : AreRising (map (λ entry. entry.name) tables.methods)
-  pub methods : All IsMethodEntry tables.methods
-  pub few_methods : length tables.methods ≤ MOST_METHODS
-  pub few_method_versions : method_versions_in_all tables.methods ≤ MOST_METHOD_VERSIONS
+  pub traces : IsTraces tables.traces
+  pub methods : IsMethods tables.methods

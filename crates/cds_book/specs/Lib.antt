@@ -1,5 +1,5 @@
-pub mod Places
 pub mod Tables
 pub mod Kept
 pub mod Plan
+pub mod Refusal
 pub mod Held

@@ -1,13 +1,13 @@
 -- What a command does to the tables: nothing, a change, or a refusal; and the tables after a change.
 -- The rules and their order are this project's own.
-use Rattle.std.specs.Prelude.{◌≡◌, ℕ, ◌+◌, ◌==◌, ◌&&◌, ◌⊎◌, nat_lt, Bool, false, List, [], ◌∷◌, ◌++◌, Option, Some, None, Result, Ok, Err, length, option_map, if◌then◌else◌}
+use Rattle.std.specs.Prelude.{◌≡◌, ℕ, ◌+◌, ◌==◌, ◌&&◌, nat_lt, Bool, false, List, [], ◌∷◌, ◌++◌, Option, Some, None, Result, Ok, Err, length, option_map, if◌then◌else◌}
 use Rattle.std.specs.Cmp.Lexicographic.{pointwise}
 use Rattle.std.specs.List.{find}
 use Rattle.std.specs.Option.{option_map_or}
 use Rattle.std.specs.Ordering.{int_eq}
 use Rattle.std.specs.Str.{bytes_eq}
 use Rattle.cds_trace.specs.Signal.{Signal}
-use Rattle.cds_book.specs.Places.{placed}
+use Rattle.cds_base.specs.Named.{placed}
 use Rattle.cds_book.specs.Tables.{NamedTraces, NamedMethod, TablesState, Room, trace_room, draft_room, freeze_room, latest, signals_of, texts_of, draft_of}
 use Rattle.cds_book.specs.Kept.{IsMethod, trace_versions_in_all, samples_in_all, method_versions_in_all}
 use Rattle.cds_book.specs.declared.command.Command.{Command}
@@ -17,7 +17,7 @@ use Rattle.cds_book.specs.declared.command.Change.TheVariants.{Trace, Draft, Fre
 use Rattle.cds_book.specs.declared.command.Plan.{Plan}
 use Rattle.cds_book.specs.declared.command.Plan.TheVariants as plan
 use Rattle.cds_book.specs.declared.error.PlanError.{PlanError}
-use Rattle.cds_book.specs.declared.error.PlanError.TheVariants.{NoMethod, Number, Full, NoMemory}
+use Rattle.cds_book.specs.declared.error.PlanError.TheVariants.{NoMethod, Number, Full}
 use Rattle.cds_book.specs.declared.limits.TheConstants.{MOST_TRACE_NAMES, MOST_VERSIONS, MOST_TRACE_VERSIONS, MOST_SAMPLES_IN_ALL, MOST_METHODS, MOST_METHOD_VERSIONS}
 
 -- the tables with these versions of a trace
@@ -35,12 +35,20 @@ abbrev pub with_frozen : TablesState → List ℕ → Option (List ℕ) → Tabl
 with_frozen tables name None = tables
 with_frozen tables name (Some draft) = with_method tables name draft (texts_of tables name ++ draft ∷ [])
 
--- the tables after a change: a trace becomes the next version of its name, a text replaces the draft, a freeze makes
--- the draft the next version
+-- the tables with a change carried out: a trace becomes the next version of its name, a text replaces the draft, a
+-- freeze makes the draft the next version
+abbrev pub carried : TablesState → Change → TablesState
+carried tables (Trace name signal) = with_signals tables name (signals_of tables name ++ signal ∷ [])
+carried tables (Draft name text) = with_method tables name text (texts_of tables name)
+carried tables (Freeze name version) = with_frozen tables name (draft_of tables name)
+
+-- what rests on the tables before is brought in line with those after: nothing does yet
+abbrev pub rebased : TablesState → TablesState → TablesState
+rebased before after = after
+
+-- the tables after a change
 unfoldable pub applied : TablesState → Change → TablesState
-applied tables (Trace name signal) = with_signals tables name (signals_of tables name ++ signal ∷ [])
-applied tables (Draft name text) = with_method tables name text (texts_of tables name)
-applied tables (Freeze name version) = with_frozen tables name (draft_of tables name)
+applied tables change = rebased tables (carried tables change)
 
 -- the counts that a change may raise, of the tables after it, each with its limit, in the order of judging
 abbrev pub counts_of : Change → TablesState → List (ℕ × ℕ)
@@ -97,11 +105,6 @@ planned tables (command.Draft name text) =
     else within_limits tables (Draft name text)
 planned tables (command.Freeze name version) = freeze_planned tables name version (draft_of tables name)
 
--- the answer is the planned one, or want of memory
-abbrev pub Answers : Result Plan PlanError → Result Plan PlanError → Type 0
-Answers (Ok plan) planned = planned ≡ Ok plan
-Answers (Err e) planned = (planned ≡ Err e) ⊎ (e ≡ NoMemory)
-
 -- a command that may be planned: the text of a draft is a method
 abbrev pub IsCommand : Command → Type 0
 IsCommand (command.Trace name signal) = Unit {0}
@@ -114,11 +117,17 @@ command_of (Trace name signal) = command.Trace name signal
 command_of (Draft name text) = command.Draft name text
 command_of (Freeze name version) = command.Freeze name version
 
--- the name of the trace or of the method that a change changes
-abbrev pub name_of_change : Change → List ℕ
-name_of_change (Trace name signal) = name
-name_of_change (Draft name text) = name
-name_of_change (Freeze name version) = name
+-- the name of the trace that a change changes, if it changes one
+abbrev pub trace_changed : Change → Option (List ℕ)
+trace_changed (Trace name signal) = Some name
+trace_changed (Draft name text) = None
+trace_changed (Freeze name version) = None
+
+-- the name of the method that a change changes, if it changes one
+abbrev pub method_changed : Change → Option (List ℕ)
+method_changed (Trace name signal) = None
+method_changed (Draft name text) = Some name
+method_changed (Freeze name version) = Some name
 
 -- the change is one that is planned on these tables
 pub record Accepts (tables : TablesState) (change : Change) : Type 0 where

@@ -3,7 +3,7 @@
 use Rattle.std.specs.Prelude.{ℕ, ◌-◌, ◌==◌, List, [], Option, None, length, slice_get, option_map, unwrap_or, if◌then◌else◌}
 use Rattle.std.specs.Option.{option_and_then}
 use Rattle.cds_trace.specs.Signal.{Signal}
-use Rattle.cds_book.specs.Places.{named}
+use Rattle.cds_base.specs.Named.{named}
 
 -- a trace name, and its versions in their order
 pub record NamedTraces : Type 0 where

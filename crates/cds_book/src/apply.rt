@@ -3,10 +3,10 @@ ghost use Rattle.cds_book.specs.Plan.{applied, room_of, Accepts};
 ghost use Rattle.cds_book.specs.declared.command.Change.TheVariants as change;
 
 use crate::command::Change;
-use crate::entry::{MethodEntry, TraceEntry};
+use crate::entry::MethodTexts;
 use crate::room::Taken;
 use crate::tables::Tables;
-use cds_base::{Bytes, Name};
+use cds_base::{Bytes, Name, Place};
 use cds_trace::Trace;
 
 impl Tables {
@@ -34,7 +34,7 @@ impl Tables {
         self.samples += u64::from(trace.len());
         match self.room.take() {
             Some(Taken::Version { at, .. }) => {
-                let Ok(()) = self.traces[at].versions.push(trace) else {
+                let Ok(()) = self.traces.entries[at].value.push(trace) else {
                     unreachable!()
                 };
             }
@@ -48,9 +48,7 @@ impl Tables {
                 let Ok(()) = versions.push(trace) else {
                     unreachable!()
                 };
-                let Ok(()) = self.traces.insert(at, TraceEntry { name, versions }) else {
-                    unreachable!()
-                };
+                self.traces.put(Place::Gap(at), name, versions);
             }
             _ => unreachable!(),
         }
@@ -63,16 +61,13 @@ impl Tables {
         ensures { self.new ≡ record { state = applied self.old.state (change.Draft name text); room = None } }
     {
         match self.room.take() {
-            Some(Taken::Draft { at, .. }) => self.methods[at].draft = text,
+            Some(Taken::Draft { at, .. }) => self.methods.entries[at].value.draft = text,
             Some(Taken::Method { at, .. }) => {
-                let method = MethodEntry {
-                    name,
+                let texts = MethodTexts {
                     draft: text,
-                    versions: Vec::new(*self.methods.allocator()),
+                    versions: Vec::new(*self.methods.entries.allocator()),
                 };
-                let Ok(()) = self.methods.insert(at, method) else {
-                    unreachable!()
-                };
+                self.methods.put(Place::Gap(at), name, texts);
             }
             _ => unreachable!(),
         }
@@ -88,8 +83,8 @@ impl Tables {
         let Some(Taken::Freeze { at, text, .. }) = self.room.take() else {
             unreachable!()
         };
-        let method = &mut self.methods[at];
-        let Ok(()) = method.versions.push(text) else {
+        let texts = &mut self.methods.entries[at].value;
+        let Ok(()) = texts.versions.push(text) else {
             unreachable!()
         };
     }

@@ -1,5 +1,3 @@
-ghost use Rattle.std.specs.Prelude.{◌≡◌};
-
 use cds_base::{Bytes, Name};
 use cds_trace::Trace;
 
@@ -32,19 +30,4 @@ pub enum Plan {
     Unchanged,
     /// The tables are to change so.
     Change(Change),
-}
-
-impl Change {
-    ghost use Rattle.cds_book.specs.Plan.{command_of};
-
-    /// The command that asks for this change. It takes no memory.
-    pub fn into_command(self) -> Command
-        ensures { result ≡ command_of self }
-    {
-        match self {
-            Change::Trace { name, trace } => Command::Trace { name, trace },
-            Change::Draft { name, text } => Command::Draft { name, text },
-            Change::Freeze { name, version } => Command::Freeze { name, version },
-        }
-    }
 }

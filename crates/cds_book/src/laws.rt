@@ -1,10 +1,11 @@
 //! Laws of the tables. Each is proved by its contract, and its body does nothing.
-ghost use Rattle.std.specs.Prelude.{◌≡◌, ◌≢◌, ℕ, ◌+◌, List, Ok, Some, unwrap_or};
+ghost use Rattle.std.specs.Prelude.{◌≤◌, ◌≡◌, ◌≢◌, ℕ, ◌+◌, List, Ok, Some, unwrap_or};
 ghost use Rattle.cds_trace.specs.Signal.{Signal};
 ghost use Rattle.cds_book.specs.Kept.{IsTables};
-ghost use Rattle.cds_book.specs.Plan.{planned, applied, command_of, name_of_change, Accepts};
+ghost use Rattle.cds_book.specs.Plan.{planned, applied, command_of, trace_changed, method_changed, Accepts};
 ghost use Rattle.cds_book.specs.Tables.{TablesState, signals_of, texts_of, trace_of, trace_versions_of, draft_of, method_of, method_versions_of};
 ghost use Rattle.cds_book.specs.declared.command.Change.{Change as Changed};
+ghost use Rattle.cds_book.specs.declared.command.Command.{Command as Asked};
 ghost use Rattle.cds_book.specs.declared.command.Change.TheVariants as change;
 ghost use Rattle.cds_book.specs.declared.command.Plan.TheVariants as plan;
 ghost use Rattle.cds_book.specs.declared.limits.TheConstants.{MOST_TRACE_NAMES, MOST_VERSIONS, MOST_TRACE_VERSIONS, MOST_SAMPLES_IN_ALL, MOST_METHODS, MOST_METHOD_VERSIONS};
@@ -60,13 +61,29 @@ pub fn a_frozen_version_is_the_draft()
         → Accepts tables (change.Freeze name version) → method_of (applied tables (change.Freeze name version)) name version ≡ draft_of tables name }
 {}
 
-/// Whatever is changed, what stands under other names stays what it was: the versions of a trace, the draft and the
-/// versions of a method.
-pub fn other_names_stay()
-    ensures { (tables : TablesState) (c : Changed) (name : List ℕ) → name ≢ name_of_change c
-        → (signals_of (applied tables c) name ≡ signals_of tables name)
-        × (draft_of (applied tables c) name ≡ draft_of tables name)
-        × (texts_of (applied tables c) name ≡ texts_of tables name) }
+/// A change leaves the versions of each trace that it doesn't change: a trace that is put leaves the traces of other
+/// names, and a draft or a freeze leaves all.
+pub fn other_traces_stay()
+    ensures { (tables : TablesState) (c : Changed) (name : List ℕ) → Some name ≢ trace_changed c
+        → signals_of (applied tables c) name ≡ signals_of tables name }
+{}
+
+/// A change leaves the draft and the versions of each method that it doesn't change: a draft or a freeze leaves the
+/// methods of other names, and a trace leaves all.
+pub fn other_methods_stay()
+    ensures { (tables : TablesState) (c : Changed) (name : List ℕ) → Some name ≢ method_changed c
+        → (draft_of (applied tables c) name ≡ draft_of tables name) × (texts_of (applied tables c) name ≡ texts_of tables name) }
+{}
+
+/// A change that is planned is the one that was asked for.
+pub fn a_change_is_what_was_asked()
+    ensures { (tables : TablesState) (asked : Asked) (c : Changed) → planned tables asked ≡ Ok (plan.Change c) → command_of c ≡ asked }
+{}
+
+/// An accepted freeze makes a version of a number from 1 to the most that a method may have.
+pub fn an_accepted_freeze_is_numbered()
+    ensures { (tables : TablesState) (name : List ℕ) (version : ℕ)
+        → Accepts tables (change.Freeze name version) → (1 ≤ version) × (version ≤ MOST_VERSIONS) }
 {}
 
 /// The limits of the tables are these numbers.

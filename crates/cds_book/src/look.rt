@@ -3,64 +3,70 @@ ghost use Rattle.std.specs.Prelude.{◌≡◌, ◌≤◌, option_copied, IfSome}
 ghost use Rattle.cds_book.specs.Kept.{IsTables};
 ghost use Rattle.cds_book.specs.Tables.{trace_of, trace_versions_of, signals_of, draft_of, method_of, method_versions_of, texts_of};
 
-use crate::entry::{method_place, numbered, trace_place};
+use crate::entry::numbered;
 use crate::limits::MOST_VERSIONS;
 use crate::tables::Tables;
 use cds_base::{Bytes, Name};
 use cds_trace::Trace;
 
 impl Tables {
+    /// Hands up what all tables keep, whatever was done to them: names rise in byte order, each version differs from the
+    /// one before it, each text is a method, and no count passes its limit. It does nothing.
+    pub fn rules(&self)
+        ensures { IsTables self.now.state }
+    {
+        let _held = self.trace_versions;
+    }
+
     /// The version of a trace, counted from 1.
     pub fn trace(&self, name: Name, version: u32) -> Option<&Trace>
         ensures { option_copied result ≡ trace_of self.now.state name version }
     {
-        let Ok(at) = trace_place(&self.traces, name) else {
+        let Some(versions) = self.traces.find(name) else {
             return None;
         };
-        numbered(&self.traces[at].versions, version)
+        numbered(versions, version)
     }
 
     /// How many versions a trace name has, at least 1, which is the number of its latest version.
     pub fn trace_versions(&self, name: Name) -> Option<u32>
         ensures value { result ≡ trace_versions_of self.now.state name }
         ensures few { IfSome result (λ count. count ≤ MOST_VERSIONS) }
-        ensures tables { IsTables self.now.state }
     {
-        let Ok(at) = trace_place(&self.traces, name) else {
+        let Some(versions) = self.traces.find(name) else {
             return None;
         };
-        Some(self.traces[at].versions.len() as u32)
+        Some(versions.len() as u32)
     }
 
     // The versions of a trace name, none where there is no such name.
     pub(crate) fn signals(&self, name: Name) -> &[Trace]
-        ensures value { result.now ≡ signals_of self.now.state name }
-        ensures tables { IsTables self.now.state }
+        ensures { result.now ≡ signals_of self.now.state name }
     {
-        let Ok(at) = trace_place(&self.traces, name) else {
+        let Some(versions) = self.traces.find(name) else {
             return &[];
         };
-        &self.traces[at].versions
+        versions
     }
 
     /// The text of a method's draft as it was sent.
     pub fn draft(&self, name: Name) -> Option<&[u8]>
         ensures { option_copied result ≡ draft_of self.now.state name }
     {
-        let Ok(at) = method_place(&self.methods, name) else {
+        let Some(texts) = self.methods.find(name) else {
             return None;
         };
-        Some(self.methods[at].draft.as_slice())
+        Some(texts.draft.as_slice())
     }
 
     /// The text of a method's version, counted from 1, as it was sent.
     pub fn method(&self, name: Name, version: u32) -> Option<&[u8]>
         ensures { option_copied result ≡ method_of self.now.state name version }
     {
-        let Ok(at) = method_place(&self.methods, name) else {
+        let Some(texts) = self.methods.find(name) else {
             return None;
         };
-        let Some(text) = numbered(&self.methods[at].versions, version) else {
+        let Some(text) = numbered(&texts.versions, version) else {
             return None;
         };
         Some(text.as_slice())
@@ -70,22 +76,20 @@ impl Tables {
     pub fn method_versions(&self, name: Name) -> Option<u32>
         ensures value { result ≡ method_versions_of self.now.state name }
         ensures few { IfSome result (λ count. count ≤ MOST_VERSIONS) }
-        ensures tables { IsTables self.now.state }
     {
-        let Ok(at) = method_place(&self.methods, name) else {
+        let Some(texts) = self.methods.find(name) else {
             return None;
         };
-        Some(self.methods[at].versions.len() as u32)
+        Some(texts.versions.len() as u32)
     }
 
     // The frozen texts of a method, none where there is no such method.
     pub(crate) fn texts(&self, name: Name) -> &[Bytes]
-        ensures value { result.now ≡ texts_of self.now.state name }
-        ensures tables { IsTables self.now.state }
+        ensures { result.now ≡ texts_of self.now.state name }
     {
-        let Ok(at) = method_place(&self.methods, name) else {
+        let Some(texts) = self.methods.find(name) else {
             return &[];
         };
-        &self.methods[at].versions
+        &texts.versions
     }
 }

@@ -1,10 +1,12 @@
 ghost use Rattle.std.specs.Prelude.{◌≡◌, false, option_copied, IsSome};
 ghost use Rattle.std.specs.Option.{option_map_or};
 ghost use Rattle.std.specs.Str.{bytes_eq};
-ghost use Rattle.cds_book.specs.Plan.{planned, applied, counts_of, is_latest, limit_passed, same_signal, Answers, AnswersAccepted, IsCommand};
+ghost use Rattle.cds_base.specs.Answers.{Gives};
+ghost use Rattle.cds_book.specs.Plan.{planned, applied, counts_of, is_latest, limit_passed, same_signal, AnswersAccepted, IsCommand};
 ghost use Rattle.cds_book.specs.Tables.{draft_of};
 ghost use Rattle.cds_book.specs.declared.command.Command.TheVariants as command;
 ghost use Rattle.cds_book.specs.declared.command.Change.TheVariants as change;
+ghost use Rattle.cds_book.specs.declared.error.PlanError.TheVariants.{NoMemory};
 
 use crate::command::{Change, Command, Plan};
 use crate::error::PlanError;
@@ -25,7 +27,7 @@ impl Tables {
     /// the first one that is passed is answered. The tables stay as they are.
     pub fn plan(&self, command: &Command) -> Result<Plan, PlanError>
         requires { IsCommand command.now }
-        ensures value { Answers result (planned self.now.state command.now) }
+        ensures value { Gives NoMemory (λ p. p) (planned self.now.state command.now) result }
         ensures accepted { AnswersAccepted self.now.state result }
     {
         match command {
@@ -36,7 +38,7 @@ impl Tables {
     }
 
     fn plan_trace(&self, name: Name, trace: &Trace) -> Result<Plan, PlanError>
-        ensures { Answers result (planned self.now.state (command.Trace name trace.now)) }
+        ensures { Gives NoMemory (λ p. p) (planned self.now.state (command.Trace name trace.now)) result }
     {
         if is_latest_trace(self.signals(name), trace) {
             return Ok(Plan::Unchanged);
@@ -63,7 +65,7 @@ impl Tables {
     }
 
     fn plan_draft(&self, name: Name, text: &Bytes) -> Result<Plan, PlanError>
-        ensures { Answers result (planned self.now.state (command.Draft name text.now)) }
+        ensures { Gives NoMemory (λ p. p) (planned self.now.state (command.Draft name text.now)) result }
     {
         if is_draft(self.draft(name), text.as_slice()) {
             return Ok(Plan::Unchanged);
@@ -71,7 +73,10 @@ impl Tables {
         if let Some(limit) = limit_passed(&self.draft_counts(name, text)) {
             return Err(PlanError::Full(limit));
         }
-        let text = Bytes::from_vec(Vec::from_slice(*self.methods.allocator(), text.as_slice())?);
+        let text = Bytes::from_vec(Vec::from_slice(
+            *self.methods.entries.allocator(),
+            text.as_slice(),
+        )?);
         Ok(Plan::Change(Change::Draft { name, text }))
     }
 
@@ -84,8 +89,9 @@ impl Tables {
     }
 
     fn plan_freeze(&self, name: Name, version: u32) -> Result<Plan, PlanError>
-        ensures { Answers result (planned self.now.state (command.Freeze name version)) }
+        ensures { Gives NoMemory (λ p. p) (planned self.now.state (command.Freeze name version)) result }
     {
+        self.rules();
         let Some(draft) = self.draft(name) else {
             return Err(PlanError::NoMethod(name));
         };

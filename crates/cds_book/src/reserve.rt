@@ -3,10 +3,9 @@ ghost use Rattle.cds_book.specs.Plan.{room_of, Accepts};
 ghost use Rattle.cds_book.specs.Tables.{trace_room, draft_room, freeze_room, draft_of};
 
 use crate::command::Change;
-use crate::entry::{method_place, trace_place};
 use crate::room::Taken;
 use crate::tables::Tables;
-use cds_base::{Bytes, Name, NoMemory};
+use cds_base::{Bytes, Name, NoMemory, Place};
 
 impl Tables {
     /// Takes the memory that `apply` of this change needs, in place of that of an earlier call. The change must be
@@ -33,15 +32,14 @@ impl Tables {
         ensures ok { OnOk result (self.new.room ≡ Some (trace_room name)) }
         ensures err { OnErr result (self.new.room ≡ None) }
     {
-        match trace_place(&self.traces, name) {
-            Ok(at) => {
-                self.traces[at].versions.reserve(1)?;
+        match self.traces.reserve(name)? {
+            Place::At(at) => {
+                self.traces.entries[at].value.reserve(1)?;
                 self.room = Some(Taken::Version { name, at });
                 Ok(())
             }
-            Err(at) => {
-                self.traces.reserve(1)?;
-                let versions = Vec::with_capacity(*self.traces.allocator(), 1)?;
+            Place::Gap(at) => {
+                let versions = Vec::with_capacity(*self.traces.entries.allocator(), 1)?;
                 self.room = Some(Taken::Traces { name, at, versions });
                 Ok(())
             }
@@ -55,17 +53,12 @@ impl Tables {
         ensures ok { OnOk result (self.new.room ≡ Some (draft_room name)) }
         ensures err { OnErr result (self.new.room ≡ None) }
     {
-        match method_place(&self.methods, name) {
-            Ok(at) => {
-                self.room = Some(Taken::Draft { name, at });
-                Ok(())
-            }
-            Err(at) => {
-                self.methods.reserve(1)?;
-                self.room = Some(Taken::Method { name, at });
-                Ok(())
-            }
-        }
+        let taken = match self.methods.reserve(name)? {
+            Place::At(at) => Taken::Draft { name, at },
+            Place::Gap(at) => Taken::Method { name, at },
+        };
+        self.room = Some(taken);
+        Ok(())
     }
 
     // Takes the room for one more version of a method, and copies its draft.
@@ -76,12 +69,13 @@ impl Tables {
         ensures ok { OnOk result (self.new.room ≡ Some (freeze_room name)) }
         ensures err { OnErr result (self.new.room ≡ None) }
     {
-        let Ok(at) = method_place(&self.methods, name) else {
+        let Place::At(at) = self.methods.place(name) else {
             unreachable!()
         };
-        let alloc = *self.methods.allocator();
-        let text = Vec::from_slice(alloc, self.methods[at].draft.as_slice())?;
-        self.methods[at].versions.reserve(1)?;
+        let alloc = *self.methods.entries.allocator();
+        let texts = &mut self.methods.entries[at].value;
+        let text = Vec::from_slice(alloc, texts.draft.as_slice())?;
+        texts.versions.reserve(1)?;
         self.room = Some(Taken::Freeze {
             name,
             at,

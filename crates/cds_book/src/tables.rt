@@ -1,8 +1,10 @@
 ghost use Rattle.std.specs.Prelude.{◌≡◌, None};
 ghost use Rattle.cds_book.specs.Tables.{empty_tables};
 
-use crate::entry::{MethodEntry, TraceEntry};
+use crate::entry::MethodTexts;
 use crate::room::Taken;
+use cds_base::NamedList;
+use cds_trace::Trace;
 use std::alloc::Global;
 use std::marker::Model;
 
@@ -12,12 +14,14 @@ use std::marker::Model;
 /// order, each version differs from the one before it, each text is a method, and no count passes its limit.
 #[derive(Debug, Drop)]
 pub struct Tables {
-    pub(crate) traces: Vec<TraceEntry>,
+    /// The versions of each trace name.
+    pub(crate) traces: NamedList<Vec<Trace>>,
     /// How many versions all trace names have together.
     pub(crate) trace_versions: u64,
     /// How many samples all versions have together.
     pub(crate) samples: u64,
-    pub(crate) methods: Vec<MethodEntry>,
+    /// The texts of each method.
+    pub(crate) methods: NamedList<MethodTexts>,
     /// How many versions all methods have together.
     pub(crate) method_versions: u64,
     pub(crate) room: Option<Taken>,
@@ -41,10 +45,10 @@ impl Tables {
         ensures { result ≡ record { state = empty_tables; room = None } }
     {
         Tables {
-            traces: Vec::new(alloc),
+            traces: NamedList::new(alloc),
             trace_versions: 0,
             samples: 0,
-            methods: Vec::new(alloc),
+            methods: NamedList::new(alloc),
             method_versions: 0,
             room: None,
         }
