@@ -6,7 +6,8 @@ use Rattle.std.specs.List.{find}
 use Rattle.std.specs.Option.{option_map_or}
 use Rattle.std.specs.Ordering.{int_eq}
 use Rattle.std.specs.Str.{bytes_eq}
-use Rattle.cds_trace.specs.Signal.{Signal}
+use Rattle.cds_base.specs.NameText.{IsName}
+use Rattle.cds_trace.specs.Signal.{Signal, IsTrace}
 use Rattle.cds_base.specs.Named.{placed}
 use Rattle.cds_book.specs.Tables.{NamedTraces, NamedMethod, TablesState, Room, trace_room, draft_room, freeze_room, latest, signals_of, texts_of, draft_of}
 use Rattle.cds_book.specs.Kept.{IsMethod, trace_versions_in_all, samples_in_all, method_versions_in_all}
@@ -139,6 +140,18 @@ abbrev pub AnswersAccepted : TablesState → Result Plan PlanError → Type 0
 AnswersAccepted tables (Ok (plan.Change change)) = Accepts tables change
 AnswersAccepted tables (Ok plan.Unchanged) = Unit {0}
 AnswersAccepted tables (Err e) = Unit {0}
+
+-- the name of a change is a name, and its trace a trace
+abbrev pub HasContent : Change → Type 0
+HasContent (Trace name signal) = IsName name × IsTrace signal
+HasContent (Draft name text) = IsName name
+HasContent (Freeze name version) = IsName name
+
+-- it is so of a change that is answered
+abbrev pub PlansContent : Result Plan PlanError → Type 0
+PlansContent (Ok (plan.Change change)) = HasContent change
+PlansContent (Ok plan.Unchanged) = Unit {0}
+PlansContent (Err e) = Unit {0}
 
 -- the room that a change needs
 abbrev pub room_of : Change → Room

@@ -2,7 +2,7 @@ ghost use Rattle.std.specs.Prelude.{◌≡◌, false, option_copied, IsSome};
 ghost use Rattle.std.specs.Option.{option_map_or};
 ghost use Rattle.std.specs.Str.{bytes_eq};
 ghost use Rattle.cds_base.specs.Answers.{Gives};
-ghost use Rattle.cds_book.specs.Plan.{planned, applied, counts_of, is_latest, limit_passed, same_signal, AnswersAccepted, IsCommand};
+ghost use Rattle.cds_book.specs.Plan.{planned, applied, counts_of, is_latest, limit_passed, same_signal, AnswersAccepted, PlansContent, IsCommand};
 ghost use Rattle.cds_book.specs.Tables.{draft_of};
 ghost use Rattle.cds_book.specs.declared.command.Command.TheVariants as command;
 ghost use Rattle.cds_book.specs.declared.command.Change.TheVariants as change;
@@ -29,6 +29,7 @@ impl Tables {
         requires { IsCommand command.now }
         ensures value { Gives NoMemory (λ p. p) (planned self.now.state command.now) result }
         ensures accepted { AnswersAccepted self.now.state result }
+        ensures content { PlansContent result }
     {
         match command {
             Command::Trace { name, trace } => self.plan_trace(*name, trace),
@@ -38,8 +39,10 @@ impl Tables {
     }
 
     fn plan_trace(&self, name: Name, trace: &Trace) -> Result<Plan, PlanError>
-        ensures { Gives NoMemory (λ p. p) (planned self.now.state (command.Trace name trace.now)) result }
+        ensures value { Gives NoMemory (λ p. p) (planned self.now.state (command.Trace name trace.now)) result }
+        ensures content { PlansContent result }
     {
+        let (_name, _count) = (name.as_bytes(), trace.len());
         if is_latest_trace(self.signals(name), trace) {
             return Ok(Plan::Unchanged);
         }
@@ -65,8 +68,10 @@ impl Tables {
     }
 
     fn plan_draft(&self, name: Name, text: &Bytes) -> Result<Plan, PlanError>
-        ensures { Gives NoMemory (λ p. p) (planned self.now.state (command.Draft name text.now)) result }
+        ensures value { Gives NoMemory (λ p. p) (planned self.now.state (command.Draft name text.now)) result }
+        ensures content { PlansContent result }
     {
+        let _name = name.as_bytes();
         if is_draft(self.draft(name), text.as_slice()) {
             return Ok(Plan::Unchanged);
         }
@@ -89,9 +94,11 @@ impl Tables {
     }
 
     fn plan_freeze(&self, name: Name, version: u32) -> Result<Plan, PlanError>
-        ensures { Gives NoMemory (λ p. p) (planned self.now.state (command.Freeze name version)) result }
+        ensures value { Gives NoMemory (λ p. p) (planned self.now.state (command.Freeze name version)) result }
+        ensures content { PlansContent result }
     {
         self.rules();
+        let _name = name.as_bytes();
         let Some(draft) = self.draft(name) else {
             return Err(PlanError::NoMethod(name));
         };

@@ -9,19 +9,22 @@ use cds_book::Change;
 use cds_trace::Trace;
 use std::alloc::{AllocError, Global};
 
-/// The first byte of each record.
-const FORMAT: u8 = 1;
+/// The first byte of each record: the format.
+pub(crate) const FORMAT: u8 = 2;
 
-/// The kinds of records.
-const TRACE: u8 = 1;
+/// The kind of the record of a trace that is put.
+pub(crate) const TRACE: u8 = 1;
 
-const DRAFT: u8 = 2;
+/// The kind of the record of a draft that is put.
+pub(crate) const DRAFT: u8 = 2;
 
-const FREEZE: u8 = 3;
+/// The kind of the record of a version that is frozen.
+pub(crate) const FREEZE: u8 = 3;
 
-/// The record of a change: the byte 1, the byte of its kind, the name of what is changed, and the fields of the kind,
-/// numbers with the high byte first. It needs a change that has a record: a text shorter than 2^32 bytes, and a version
-/// from 1 to 1,000. The record of a change that may be planned is shorter than 2^32 bytes.
+/// The record of a change in format 2: the byte 2, the byte of its kind, the name of what is changed, and the fields of
+/// the kind, numbers with the high byte first; the samples of a trace stand as their differences. It needs a change
+/// that has a record: a name, a trace, a text shorter than 2^32 bytes, and a version from 1 to 1,000. The record of a
+/// change that may be planned is shorter than 2^32 bytes.
 pub fn write(alloc: Global, change: &Change) -> Result<Bytes, AllocError>
     requires { HasRecord change.now }
     ensures value { IfOk result (λ bytes. bytes ≡ record_of change.now) }
@@ -35,14 +38,15 @@ pub fn write(alloc: Global, change: &Change) -> Result<Bytes, AllocError>
 }
 
 /// The record of a trace that is put.
-#[tactic(auto, using(crate::proofs::Lengths::length_of_samples))]
+#[tactic(auto, using(crate::proofs::Lengths::differences_short))]
 fn trace_record(alloc: Global, name: &Name, trace: &Trace) -> Result<Bytes, AllocError>
     ensures value { IfOk result (λ bytes. bytes ≡ record_of (Change.Trace name.now trace.now)) }
     ensures short { IfOk result (λ bytes. length bytes < 2 ^ 32) }
 {
     let mut bytes = begin(alloc, TRACE, name)?;
     bytes.extend_from_slice(&trace.period().to_be_bytes())?;
-    let samples = trace.record_samples()?;
+    let _count = trace.len();
+    let samples = trace.record_differences()?;
     bytes.extend_from_slice(samples.as_slice())?;
     Ok(Bytes::from_vec(bytes))
 }
