@@ -1,5 +1,5 @@
 pub mod Ratios
-pub mod Limits
 pub mod Sums
 pub mod Greatest
 pub mod Found
+pub mod Fold

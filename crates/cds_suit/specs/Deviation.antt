@@ -5,6 +5,7 @@ use Rattle.std.specs.Prelude.{ℕ, ◌-◌, ◌*◌, ◌≤◌, nat_lt, nat_le, 
 use Rattle.cds_base.specs.Search.{greatest}
 use Rattle.cds_base.specs.declared.peak.Missing.{Missing}
 use Rattle.cds_base.specs.declared.peak.Missing.TheVariants.{TooFew, ZeroSum}
+use Rattle.cds_suit.specs.declared.square.TheConstants.{MOST_DEVIATION, ONE_SQUARED}
 
 -- Sxx, the sum of the squares of the values
 abbrev pub sum_of_squares : List ℕ → ℕ
@@ -20,11 +21,11 @@ level values = (length values - 1) * (sum values * sum values)
 
 -- the deviation is at most q hundredths of a percent: its square, spread / level, is at most q^2 / 10^8
 abbrev pub is_at_most : List ℕ → ℕ → Bool
-is_at_most values q = nat_le (spread values * 100000000) (q * q * level values)
+is_at_most values q = nat_le (spread values * ONE_SQUARED) (q * q * level values)
 
 -- the deviation is at least q hundredths of a percent
 abbrev pub is_at_least : List ℕ → ℕ → Bool
-is_at_least values q = nat_le (q * q * level values) (spread values * 100000000)
+is_at_least values q = nat_le (q * q * level values) (spread values * ONE_SQUARED)
 
 -- what stands of values that have a deviation, or why they have none: fewer than two values, or a sum of 0
 abbrev pub if_deviates : {A : Type 0} → List ℕ → A → Result A Missing
@@ -34,12 +35,12 @@ if_deviates values a = if nat_lt (length values) 2 then Err TooFew else (if nat_
 abbrev pub at_most_of : List ℕ → ℕ → Result Bool Missing
 at_most_of values q = if_deviates values (is_at_most values q)
 
--- the greatest q of 0 to 80000 such that the deviation is at least q hundredths of a percent
+-- the greatest q of 0 to 80,000 such that the deviation is at least q hundredths of a percent
 abbrev pub floor_of : List ℕ → Result ℕ Missing
-floor_of values = if_deviates values (greatest (is_at_least values) 80000)
+floor_of values = if_deviates values (greatest (is_at_least values) MOST_DEVIATION)
 
 -- q is the greatest number at all such that the deviation is at least q hundredths of a percent
 pub record IsDeviation (values : List ℕ) (q : ℕ) : Type 0 where
-  pub reached : q * q * level values ≤ spread values * 100000000
-  pub last : (k : ℕ) → k * k * level values ≤ spread values * 100000000 → k ≤ q
-  pub most : q ≤ 80000
+  pub reached : q * q * level values ≤ spread values * ONE_SQUARED
+  pub last : (k : ℕ) → k * k * level values ≤ spread values * ONE_SQUARED → k ≤ q
+  pub most : q ≤ MOST_DEVIATION

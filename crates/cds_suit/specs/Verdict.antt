@@ -26,3 +26,11 @@ is_undecided (Undecided cause) = true
 -- the verdict of several: Fail where one is Fail, else the first undecided one, else Pass
 abbrev pub overall_of : List Verdict → Verdict
 overall_of verdicts = if list_any is_fail verdicts then Fail else unwrap_or (find is_undecided verdicts) Pass
+
+-- what two verdicts come to, the first one judged first
+abbrev pub joined : Verdict → Verdict → Verdict
+joined Pass next = next
+joined Fail next = Fail
+joined (Undecided cause) Fail = Fail
+joined (Undecided cause) Pass = Undecided cause
+joined (Undecided cause) (Undecided other) = Undecided cause

@@ -1,14 +1,17 @@
-ghost use Rattle.std.specs.Prelude.{◌≡◌, pos, IsTrue};
-ghost use Rattle.cds_frac.specs.Fraction.{lowest_terms};
-ghost use Rattle.cds_suit.specs.Check.{compares_one, parts_of_one, passes, check_of};
+//! The checks that compare one value of a row with a limit.
+ghost use Rattle.std.specs.Prelude.{◌≡◌, ◌≤◌, IsTrue, Some, option_map};
+ghost use Rattle.cds_suit.specs.Check.{compares_one, keeps, is_at_least, is_at_most, check_of};
 
 use crate::verdict::Verdict;
 use cds_base::Missing;
 use cds_frac::Frac;
 use cds_rules::CheckKind;
 
-/// How many parts of one the limit of a check is stated in, for all kinds but plates: hundredths.
-const HUNDREDTHS: i128 = 100;
+/// The limit of a check of plates is in ones.
+pub const ONES: u32 = 1;
+
+/// The limits of the other checks that compare one value are in hundredths.
+pub const HUNDREDTHS: u32 = 100;
 
 /// The verdict of a check that compares one value of a row with its limit: resolution, plates, signal to noise,
 /// retention factor and peak to valley pass where the value is at least the limit, tailing where it is at most the
@@ -17,31 +20,46 @@ const HUNDREDTHS: i128 = 100;
 /// values are after USP General Chapter 621, in this project's half-height form.
 pub fn check(kind: CheckKind, value: Result<Frac, Missing>, limit: u32) -> Verdict
     requires { IsTrue (compares_one kind) }
-    ensures { result ≡ check_of kind value limit }
+    ensures { check_of kind value limit ≡ Some result }
 {
     match value {
-        Ok(value) => Verdict::from_test(Ok(passes(kind, &value, limit))),
+        Ok(value) => Verdict::from_test(Ok(is_kept(kind, &value, limit))),
         Err(cause) => Verdict::Undecided(cause),
     }
 }
 
 /// Whether the value keeps the limit of a check of this kind.
-fn passes(kind: CheckKind, value: &Frac, limit: u32) -> bool
-    ensures { result ≡ passes kind value.now limit }
+fn is_kept(kind: CheckKind, value: &Frac, limit: u32) -> bool
+    requires { IsTrue (compares_one kind) }
+    ensures { option_map (λ test. test value.now limit) (keeps kind) ≡ Some result }
 {
-    let order = value.cmp(&limit_of(kind, limit));
     match kind {
-        CheckKind::Tailing => order.is_le(),
-        _ => order.is_ge(),
+        CheckKind::Resolution => is_at_least(value, limit, HUNDREDTHS),
+        CheckKind::Tailing => is_at_most(value, limit, HUNDREDTHS),
+        CheckKind::Plates => is_at_least(value, limit, ONES),
+        CheckKind::SignalNoise => is_at_least(value, limit, HUNDREDTHS),
+        CheckKind::Retention => is_at_least(value, limit, HUNDREDTHS),
+        CheckKind::PeakValley => is_at_least(value, limit, HUNDREDTHS),
+        CheckKind::RsdArea | CheckKind::RsdTime | CheckKind::R2 => unreachable!(),
     }
 }
 
-/// The limit of a check of this kind, as the number that the value is compared with.
-fn limit_of(kind: CheckKind, limit: u32) -> Frac
-    ensures { result ≡ lowest_terms (pos limit) (parts_of_one kind) }
+/// Whether the value is at least the limit, which is in so many parts of one.
+fn is_at_least(value: &Frac, limit: u32, parts: u32) -> bool
+    requires { 1 ≤ parts }
+    ensures { result ≡ is_at_least parts value.now limit }
 {
-    match kind {
-        CheckKind::Plates => Frac::new(i128::from(limit), 1),
-        _ => Frac::new(i128::from(limit), HUNDREDTHS),
-    }
+    value
+        .cmp(&Frac::new(i128::from(limit), i128::from(parts)))
+        .is_ge()
+}
+
+/// Whether the value is at most the limit, which is in so many parts of one.
+fn is_at_most(value: &Frac, limit: u32, parts: u32) -> bool
+    requires { 1 ≤ parts }
+    ensures { result ≡ is_at_most parts value.now limit }
+{
+    value
+        .cmp(&Frac::new(i128::from(limit), i128::from(parts)))
+        .is_le()
 }

@@ -7,6 +7,7 @@
 
 mod checks;
 mod deviation;
+mod laws;
 mod square;
 #[cfg(test)]
 mod tests;
@@ -14,5 +15,6 @@ mod verdict;
 
 pub use checks::check;
 pub use deviation::{rsd_at_most, rsd_floor};
-pub use square::{MOST_DEVIATION, MOST_VALUES, VALUE_LIMIT};
+pub use laws::{an_overall_verdict_is_a_fold, the_limits};
+pub use square::{MOST_DEVIATION, MOST_VALUES};
 pub use verdict::{Verdict, overall};

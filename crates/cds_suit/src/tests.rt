@@ -1,5 +1,5 @@
-use crate::{MOST_VALUES, VALUE_LIMIT, Verdict, check, overall, rsd_at_most, rsd_floor};
-use cds_base::Missing;
+use crate::{MOST_VALUES, Verdict, check, overall, rsd_at_most, rsd_floor};
+use cds_base::{AREA_LIMIT, Missing};
 use cds_frac::Frac;
 use cds_rules::CheckKind;
 use std::process::Abort;
@@ -12,7 +12,7 @@ fn deviation(
     limit: u32,
 ) -> (Result<u32, Missing>, Result<bool, Missing>) {
     assert!(rt; values.len() <= MOST_VALUES);
-    let below = values.iter().all(|x| *x < VALUE_LIMIT);
+    let below = values.iter().all(|x| *x < AREA_LIMIT);
     assert!(rt; below);
     (rsd_floor(values), rsd_at_most(values, limit))
 }
@@ -21,8 +21,8 @@ fn deviation(
 fn deviations_are_compared_before_they_are_rounded(rt: HostRuntime) -> Result<(), Fail> {
     // 63 values of 0 and one more, and 64 equal values, both at the limits
     let mut far = [0; 64];
-    far[63] = VALUE_LIMIT - 1;
-    let full = [VALUE_LIMIT - 1; 64];
+    far[63] = AREA_LIMIT - 1;
+    let full = [AREA_LIMIT - 1; 64];
     let too_few = (Err(Missing::TooFew), Err(Missing::TooFew));
     let zero_sum = (Err(Missing::ZeroSum), Err(Missing::ZeroSum));
     let cases: [(&[u64], u32, (Result<u32, Missing>, Result<bool, Missing>)); 15] = [

@@ -1,3 +1,4 @@
+//! Verdicts, and the verdict of several.
 ghost use Rattle.std.specs.Prelude.{◌≡◌, find, unwrap_or};
 ghost use Rattle.std.specs.List.{list_any};
 ghost use Rattle.cds_suit.specs.Verdict.{verdict_of, is_fail, is_undecided, overall_of};

@@ -1,11 +1,12 @@
-use Rattle.cds_suit.proofs.Greatest.{Between-start, greatest-end, last-end}
+use Rattle.std.proofs.lemmas.Bool.{le-leb, leb-true}
+use Rattle.cds_suit.proofs.Greatest.{PassesFromBelow-reaches, reached-most}
 use Rattle.cds_suit.proofs.square.Square.floor.Goals as goal
 
-pub loop-above-init : goal.loop-above-init
-loop-above-init c = Between-start c.args.self.now c.requires
+pub greatest_reached-requires-clause-falls : goal.greatest_reached-requires-clause-falls
+greatest_reached-requires-clause-falls c = PassesFromBelow-reaches c.args.self.now
 
-pub returns-clause-value : goal.returns-clause-value
-returns-clause-value c = greatest-end c.args.self.now c.loop-above.low c.loop-above.above c.loop-above.invariant c.loop-above-test.false
+pub returns-clause-reached : goal.returns-clause-reached
+returns-clause-reached c = leb-true _ _ c.greatest_reached.ensures.reached
 
 pub returns-clause-last : goal.returns-clause-last
-returns-clause-last c = last-end c.args.self.now c.loop-above.low c.loop-above.above c.loop-above.invariant c.loop-above-test.false
+returns-clause-last c k here = c.greatest_reached.ensures.last k (reached-most c.args.self.now c.requires k here) (le-leb _ _ here)
