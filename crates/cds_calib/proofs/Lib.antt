@@ -7,3 +7,4 @@ pub mod LeastMultiple
 pub mod LineLaws
 pub mod Dilution
 pub mod Reached
+pub mod NormalEquations

@@ -1,10 +1,9 @@
--- A coefficient of determination by comparing two fractions, and the search for the greatest one that is reached.
+-- A coefficient of determination by comparing two fractions, and the greatest one that is reached.
 use Rattle.std.proofs.Common.{◌≡◌, ℕ, ◌+◌, ◌-◌, ◌*◌, ◌<◌, ◌≤◌, Bool, true, false, not, cond, eqb, ltb, leb, List, length, Ok, Err, ℤ, pos, ◌*ℤ◌, int_cmp, Ordering, refl, sym, ap, ap₂, ◌∙◌, subst, arith, mul-pos, inl, inr}
 use Rattle.std.proofs.Math.Nat.{mul-le-mul, mul-le-mul_right}
-use Rattle.std.proofs.lemmas.Bool.{lt-ltb, le-ltb, ltb-true, le-leb, lt-leb, cases_lt}
+use Rattle.std.proofs.lemmas.Bool.{lt-ltb, le-ltb, ltb-true, le-leb, leb-true, cases_lt}
 use Rattle.std.proofs.lemmas.Bool.Decides.{nat_tests}
-use Rattle.cds_base.specs.Search.{greatest}
-use Rattle.cds_base.proofs.SearchLaws.{greatest-is}
+use Rattle.cds_base.specs.Search.{greatest, PassesFromBelow}
 use Rattle.cds_base.specs.declared.peak.Missing.TheVariants.{TooFew, NotRising}
 use Rattle.cds_frac.specs.Fraction.{Fraction, lowest_terms}
 use Rattle.std.specs.Ordering.{ordering_index}
@@ -15,8 +14,8 @@ use Rattle.cds_calib.specs.declared.point.Point.{Point}
 use Rattle.cds_calib.specs.declared.determination.Spread.{Spread}
 use Rattle.cds_calib.specs.Points.{sum_x, sum_y, sum_xy}
 use Rattle.cds_calib.specs.Line.{differ, corrected_xx, corrected_yy, corrected_xy}
-use Rattle.cds_calib.specs.Determination.{explained, total, reaches, if_rising, IsDetermination}
-use Rattle.cds_calib.specs.Spread.{spread_of}
+use Rattle.cds_calib.specs.Determination.{explained, total, if_rising, determination_of, IsDetermination}
+use Rattle.cds_calib.specs.Spread.{spread_of, reaches as spread_reaches}
 use Rattle.cds_calib.proofs.Squares.{gap}
 use Rattle.cds_calib.proofs.Spread.{schwarz}
 use Rattle.cds_calib.proofs.LineLaws.{if_true, if_false, differ-true, differ-false}
@@ -70,13 +69,6 @@ spread-some points xx yy xy xx_is xx_some xy_is xy_some yy_is =
 
 -- ---- the greatest
 
--- low is reached, and nothing from above on
-pub record Between (points : List Point) (low above : ℕ) : Type 0 where
-  pub ordered : low < above
-  pub top : above ≤ 10001
-  pub reached : low * total points ≤ explained points
-  pub missed : explained points < above * total points
-
 -- a line that rises does so whatever is asked of it
 pub if_rising-swap : {A B : Type 0} (points : List Point) (a s : A) (b : B) → Ok s ≡ if_rising points a → Ok b ≡ if_rising points b
 if_rising-swap {A} {B} points a s b is = go (differ points) (ltb 0 (corrected_xy points)) is
@@ -104,35 +96,43 @@ schwarz_total points =
     let whole : gap high low * gap high low ≤ total points = schwarz (λ p. p.amount) (λ p. p.area) points in
     omega arith
 
--- r^2 is at least 0, and below 10001 / 10000
-pub Between-start : (points : List Point) → 0 < corrected_xy points → Between points 0 10001
-Between-start points rises =
-    let most = schwarz_total points in
-    let some : 0 < corrected_xy points * corrected_xy points = mul-pos rises rises in
-    record { ordered = omega arith; top = omega arith; reached = omega arith; missed = omega arith }
+-- what r^2 reaches it reaches from 0 on
+pub PassesFromBelow-reaches : (s : Spread) → PassesFromBelow (spread_reaches s)
+PassesFromBelow-reaches s = record {
+  start = le-leb (0 * (s.xx * s.yy)) (10000 * (s.xy * s.xy)) (omega arith);
+  below = λ j k le here.
+      let reached = leb-true (k * (s.xx * s.yy)) (10000 * (s.xy * s.xy)) here in
+      let less : j * (s.xx * s.yy) ≤ k * (s.xx * s.yy) = mul-le-mul_right {m = j} {n = k} (s.xx * s.yy) le in
+      le-leb (j * (s.xx * s.yy)) (10000 * (s.xy * s.xy)) (omega arith);
+}
 
--- what passes the next number is passed by all beyond
-beyond : (points : List Point) (low k : ℕ) → explained points < (low + 1) * total points → low < k → explained points < k * total points
-beyond points low k missed lt =
-    let more : (low + 1) * total points ≤ k * total points = mul-le-mul_right {m = low + 1} {n = k} (total points) (omega arith) in
-    omega arith
+-- no r^2 reaches more than 1
+reached-most : (points : List Point) → 0 < corrected_xy points → (k : ℕ) → k * total points ≤ explained points → k ≤ 10000
+reached-most points rises k here =
+    elim (cases_lt 10000 k) [
+      | inl lt ↦
+          let most = schwarz_total points in
+          let some : 0 < corrected_xy points * corrected_xy points = mul-pos rises rises in
+          let more : 10001 * total points ≤ k * total points = mul-le-mul_right {m = 10001} {n = k} (total points) (omega arith) in
+          absurd (omega arith)
+      | inr ge ↦ ge
+    ]
 
-pub IsDetermination-end : (points : List Point) (low above : ℕ) → Between points low above → above - low ≤ 1 → IsDetermination points low
-IsDetermination-end points low above is near =
-    let next : above ≡ low + 1 = let o = is.ordered in omega arith in
-    let missed : explained points < (low + 1) * total points = subst (λ a. explained points < a * total points) next is.missed in
+-- the greatest number that the kept sums of the points reach
+pub determination-is : (points : List Point) (s : Spread) (q : ℕ) → Ok s ≡ if_rising points (spread_of points) → q ≡ greatest (spread_reaches s) 10000 → Ok q ≡ determination_of points
+determination-is points s q is q_is =
+    let same = (if_rising-ok points (spread_of points) s is).0 in
+    ap Ok (q_is ∙ ap (λ t. greatest (spread_reaches t) 10000) same) ∙ if_rising-swap points (spread_of points) s _ is
+
+-- it is the greatest at all
+pub IsDetermination-is : (points : List Point) (s : Spread) (q : ℕ) → Ok s ≡ if_rising points (spread_of points) → spread_reaches s q ≡ true
+    → ((k : ℕ) → k ≤ 10000 → spread_reaches s k ≡ true → k ≤ q) → IsDetermination points q
+IsDetermination-is points s q is here last =
+    let own = if_rising-ok points (spread_of points) s is in
     record {
-      reached = is.reached;
-      greatest = λ k here. elim (cases_lt low k) [ inl lt ↦ absurd (let past = beyond points low k missed lt in omega arith) | inr ge ↦ ge ];
+      reached = leb-true (q * total points) (explained points) (subst (λ t. spread_reaches t q ≡ true) own.0 here);
+      greatest = λ k reached. last k (reached-most points own.1 k reached) (subst (λ t. spread_reaches t k ≡ true) (sym own.0) (le-leb (k * total points) (explained points) reached));
     }
-
-pub determination-end : (points : List Point) (low above : ℕ) → Between points low above → above - low ≤ 1 → low ≡ greatest (reaches points) 10000
-determination-end points low above is near =
-    let next : above ≡ low + 1 = let o = is.ordered in omega arith in
-    let missed : explained points < (low + 1) * total points = subst (λ a. explained points < a * total points) next is.missed in
-    let within : low ≤ 10000 = let o = is.ordered in let t = is.top in omega arith in
-    sym (greatest-is (reaches points) 10000 low within (le-leb (low * total points) (explained points) is.reached)
-    (λ k lt le. lt-leb (k * total points) (explained points) (beyond points low k missed lt)))
 
 -- an order that isn't Less
 not_less : (m n : ℕ) → not (eqb (ordering_index (int_cmp (pos m) (pos n))) 0) ≡ leb n m

@@ -4,12 +4,13 @@ use Rattle.std.specs.Prelude.{ℕ, ◌*◌, ◌≤◌, nat_lt, nat_le, Bool, if�
 use Rattle.cds_base.specs.Search.{greatest}
 use Rattle.cds_base.specs.declared.peak.Missing.{Missing}
 use Rattle.cds_base.specs.declared.peak.Missing.TheVariants.{TooFew, NotRising}
+use Rattle.cds_calib.specs.declared.determination.TheConstants.{MOST_DETERMINATION}
 use Rattle.cds_calib.specs.declared.point.Point.{Point}
 use Rattle.cds_calib.specs.Line.{differ, corrected_xx, corrected_yy, corrected_xy}
 
 -- 10000 (n Sxy - Sx Sy)^2
 abbrev pub explained : List Point → ℕ
-explained points = 10000 * (corrected_xy points * corrected_xy points)
+explained points = MOST_DETERMINATION * (corrected_xy points * corrected_xy points)
 
 -- (n Sxx - Sx^2) (n Syy - Sy^2)
 abbrev pub total : List Point → ℕ
@@ -29,7 +30,7 @@ at_least_of points q = if_rising points (reaches points q)
 
 -- the greatest q of 0 to 10000 such that r^2 is at least q / 10000
 abbrev pub determination_of : List Point → Result ℕ Missing
-determination_of points = if_rising points (greatest (reaches points) 10000)
+determination_of points = if_rising points (greatest (reaches points) MOST_DETERMINATION)
 
 -- q is the greatest number at all such that r^2 is at least q / 10000
 pub record IsDetermination (points : List Point) (q : ℕ) : Type 0 where

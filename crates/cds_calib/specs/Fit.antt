@@ -9,6 +9,8 @@ use Rattle.cds_base.specs.declared.peak.Missing.TheVariants.{TooFew, NotRising, 
 use Rattle.cds_rules.specs.declared.method.Weight.{Weight}
 use Rattle.cds_rules.specs.declared.method.Weight.TheVariants.{Equal, Origin, Inverse}
 use Rattle.cds_frac.specs.Divisors.{least_from}
+use Rattle.cds_frac.specs.declared.divisors.TheConstants.{LCM_LIMIT}
+use Rattle.cds_frac.specs.declared.fraction.TheConstants.{PART_LIMIT}
 use Rattle.cds_calib.specs.declared.point.Point.{Point}
 use Rattle.cds_calib.specs.Points.{sum_x, sum_y, sum_xx, sum_xy}
 use Rattle.cds_calib.specs.Line.{differ, corrected_xx, corrected_xy}
@@ -72,7 +74,7 @@ rising line = if nat_lt 0 line.slope then Ok line else Err NotRising
 
 -- M is below 2^60, and Sx Swy below 2^126
 abbrev pub weights_fit : ℕ → List Point → Bool
-weights_fit m points = nat_lt m (2 ^ 60) && nat_lt (sum_x points * sum_wy m points) (2 ^ 126)
+weights_fit m points = nat_lt m LCM_LIMIT && nat_lt (sum_x points * sum_wy m points) PART_LIMIT
 
 -- the line through the points, or why there is none: too few points, numbers past the limits, or a line that does
 -- not rise, the first of these that holds
@@ -99,7 +101,7 @@ slope_limit Inverse = 2 ^ 124
 abbrev pub intercept_limit : Weight → ℕ
 intercept_limit Equal = 2 ^ 124
 intercept_limit Origin = 1
-intercept_limit Inverse = 2 ^ 126
+intercept_limit Inverse = PART_LIMIT
 
 -- what each line is: it rises, and its numbers stay below the limits of its weight
 pub record IsFit (line : CalibrationLine) : Type 0 where

@@ -5,3 +5,4 @@ pub mod Fit
 pub mod Amount
 pub mod Determination
 pub mod Spread
+pub mod LeastSquares

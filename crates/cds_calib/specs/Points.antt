@@ -1,16 +1,18 @@
 -- The points of a calibration and their plain sums, in the words of least squares: n points, x an amount, y an area.
-use Rattle.std.specs.Prelude.{ℕ, ◌*◌, ◌^◌, ◌<◌, ◌≤◌, List, length, sum_by, All}
+use Rattle.std.specs.Prelude.{ℕ, ◌*◌, ◌<◌, ◌≤◌, List, length, sum_by, All}
+use Rattle.cds_base.specs.declared.peak.TheConstants.{AREA_LIMIT}
 use Rattle.cds_calib.specs.declared.point.Point.{Point}
+use Rattle.cds_calib.specs.declared.point.TheConstants.{MOST_AMOUNT, MOST_POINTS}
 
 -- a point within the limits: an amount of 1 to 10^9 and an area below 2^52
 pub record IsPoint (p : Point) : Type 0 where
   pub some : 1 ≤ p.amount
-  pub amount : p.amount ≤ 1000000000
-  pub area : p.area < 2 ^ 52
+  pub amount : p.amount ≤ MOST_AMOUNT
+  pub area : p.area < AREA_LIMIT
 
 -- what the points of a calibration always are: at most 64, each within the limits
 pub record IsCalibration (points : List Point) : Type 0 where
-  pub few : length points ≤ 64
+  pub few : length points ≤ MOST_POINTS
   pub within : All IsPoint points
 
 -- Sx, the sum of the amounts

@@ -1,6 +1,7 @@
 -- How the sums that a calibration keeps follow its points. No public clause names them.
 use Rattle.std.specs.Prelude.{◌≡◌, ℕ, ◌+◌, ◌*◌, ◌^◌, ◌<◌, ◌≤◌, List}
 use Rattle.cds_calib.specs.declared.point.Point.{Point}
+use Rattle.cds_calib.specs.declared.point.TheConstants.{MOST_POINTS}
 use Rattle.cds_calib.specs.declared.sums.Sums.{Sums}
 use Rattle.cds_calib.specs.Points.{IsCalibration, sum_x, sum_y, sum_xx, sum_xy, sum_yy}
 
@@ -37,5 +38,5 @@ pub record HasPoint (s : Sums) (p : Point) : Type 0 where
 -- the points are within the limits, there is room for all that may come, and the kept sums are those of the list
 pub record IsKept (points : List Point) (places : ℕ) (s : Sums) : Type 0 where
   pub calibration : IsCalibration points
-  pub room : 64 ≤ places
+  pub room : MOST_POINTS ≤ places
   pub sums : s ≡ sums_of points

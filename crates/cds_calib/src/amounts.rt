@@ -1,9 +1,9 @@
+//! The amount of an area.
 ghost use Rattle.std.specs.Prelude.{◌≡◌, ◌^◌, ◌<◌, ◌≤◌};
 ghost use Rattle.cds_calib.specs.Amount.{amount_of};
 
 use crate::fit::Fit;
-use crate::point::AREA_LIMIT;
-use cds_base::Missing;
+use cds_base::{AREA_LIMIT, Missing};
 use cds_frac::Frac;
 
 /// The amount of a peak of this area, in count milliseconds, times the dilution `u / v` of its sample: the exact

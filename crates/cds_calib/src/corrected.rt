@@ -1,3 +1,4 @@
+//! The sums of squares and products about the means.
 ghost use Rattle.std.specs.Prelude.{◌≡◌, ◌-◌, ◌*◌, ◌^◌, ◌<◌};
 ghost use Rattle.cds_calib.specs.Line.{corrected_xx, corrected_yy, corrected_xy};
 

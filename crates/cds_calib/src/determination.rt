@@ -1,14 +1,15 @@
-ghost use Rattle.std.specs.Prelude.{◌≡◌, ◌*◌, nat_le, IfOk};
+//! How well a straight line fits the points of a calibration.
+ghost use Rattle.std.specs.Prelude.{◌≡◌, ◌≤◌, IfOk};
 ghost use Rattle.cds_calib.specs.Determination.{if_rising, at_least_of, determination_of, IsDetermination};
-ghost use Rattle.cds_calib.specs.Spread.{spread_of, IsSpread};
+ghost use Rattle.cds_calib.specs.Spread.{spread_of, reaches, IsSpread};
 
 use crate::points::Points;
-use cds_base::Missing;
+use cds_base::{Missing, Reaching, greatest_reached};
 use cds_frac::Frac;
 use std::cmp::Ordering;
 
-/// A coefficient of determination of 1, in ten-thousandths.
-const WHOLE: u32 = 10_000;
+/// The greatest coefficient of determination, 1, in ten-thousandths.
+pub const MOST_DETERMINATION: u32 = 10_000;
 
 /// The corrected sums of points whose line rises.
 #[derive(Clone, Copy, Debug)]
@@ -16,25 +17,6 @@ struct Spread {
     xx: u128,
     yy: u128,
     xy: u128,
-}
-
-impl Spread {
-    /// Whether r^2 is at least q / 10000. Its two products have up to 220 bits, so they are not formed:
-    /// 10000 xy xy >= q xx yy exactly where 10000 xy / (xx q) >= yy / xy.
-    fn reaches(&self, q: u32) -> bool
-        requires { IsSpread self.now }
-        ensures { result ≡ nat_le (q * (self.now.xx * self.now.yy)) (10000 * (self.now.xy * self.now.xy)) }
-    {
-        if q == 0 {
-            return true;
-        }
-        let explained = Frac::new(
-            (u128::from(WHOLE) * self.xy) as i128,
-            (self.xx * u128::from(q)) as i128,
-        );
-        let total = Frac::new(self.yy as i128, self.xy as i128);
-        explained.cmp(&total) != Ordering::Less
-    }
 }
 
 impl Points {
@@ -54,18 +36,10 @@ impl Points {
     pub fn determination(&self) -> Result<u32, Missing>
         ensures value { result ≡ determination_of self.now }
         ensures greatest { IfOk result (IsDetermination self.now) }
+        ensures most { IfOk result (λ q. q ≤ MOST_DETERMINATION) }
     {
         let spread = self.spread()?;
-        let (mut low, mut above) = (0, WHOLE + 1);
-        while above - low > 1 {
-            let middle = (low + above) / 2;
-            if spread.reaches(middle) {
-                low = middle;
-            } else {
-                above = middle;
-            }
-        }
-        Ok(low)
+        Ok(greatest_reached(&spread, MOST_DETERMINATION))
     }
 
     /// The corrected sums, where two amounts differ and the line rises.
@@ -83,5 +57,25 @@ impl Points {
         }
         let yy = self.corrected_yy();
         Ok(Spread { xx, yy, xy })
+    }
+}
+
+impl Reaching for Spread {
+    ghost is_fit = { IsSpread };
+
+    ghost reached = { reaches };
+
+    /// Whether r^2 is at least q / 10000. Its two products have up to 220 bits, so they are not formed:
+    /// 10000 xy xy >= q xx yy exactly where 10000 xy / (xx q) >= yy / xy.
+    fn reaches(&self, q: u32) -> bool {
+        if q == 0 {
+            return true;
+        }
+        let explained = Frac::new(
+            (u128::from(MOST_DETERMINATION) * self.xy) as i128,
+            (self.xx * u128::from(q)) as i128,
+        );
+        let total = Frac::new(self.yy as i128, self.xy as i128);
+        explained.cmp(&total) != Ordering::Less
     }
 }

@@ -1,3 +1,4 @@
+//! The straight line through the points of a calibration.
 ghost use Rattle.std.specs.Prelude.{◌≡◌, ◌*◌, ◌^◌, ◌<◌, pos, ◌-ℤ◌, IsTrue, if◌then◌else◌};
 ghost use Rattle.std.specs.Option.{SomeIff};
 ghost use Rattle.cds_frac.specs.Fraction.{lowest_terms};
@@ -6,10 +7,9 @@ ghost use Rattle.cds_calib.specs.Amount.{undiluted, undiluted_fits};
 ghost use Rattle.cds_calib.specs.Fit.{fit_of, IsFit, common_multiple, weights_fit, rising, inverse_line};
 
 use crate::multiple::{common_multiple, weighted_sums};
-use crate::point::AREA_LIMIT;
 use crate::points::Points;
-use cds_base::Missing;
-use cds_frac::{Frac, LCM_LIMIT, PART_LIMIT};
+use cds_base::{AREA_LIMIT, Missing};
+use cds_frac::{Frac, LCM_LIMIT, PART_LIMIT, product_below_limit};
 use cds_rules::Weight;
 use std::marker::Model;
 
@@ -66,6 +66,16 @@ impl Fit {
         } else {
             None
         }
+    }
+}
+
+#[cfg(test)]
+impl Fit {
+    /// The divisor, over which the numerators of slope and intercept are.
+    pub(crate) fn divisor(&self) -> u128
+        ensures { result ≡ self.now.divisor }
+    {
+        self.divisor
     }
 }
 
@@ -160,18 +170,6 @@ impl Points {
             slope,
             intercept: difference(high, n * multiple * sums.y),
         })
-    }
-}
-
-/// The product of two numbers. None exactly where it is `PART_LIMIT`, 2^126, or more.
-pub(crate) fn product_below_limit(a: u128, b: u128) -> Option<u128>
-    ensures { SomeIff result (a * b < PART_LIMIT) (a * b) }
-{
-    let product = a.checked_mul(b)?;
-    if product < PART_LIMIT {
-        Some(product)
-    } else {
-        None
     }
 }
 

@@ -9,6 +9,7 @@ mod amounts;
 mod corrected;
 mod determination;
 mod fit;
+mod laws;
 mod multiple;
 mod point;
 mod points;
@@ -17,6 +18,11 @@ mod sums;
 mod tests;
 
 pub use amounts::amount;
+pub use determination::MOST_DETERMINATION;
 pub use fit::Fit;
-pub use point::{AREA_LIMIT, MOST_AMOUNT, MOST_POINTS, Point};
+pub use laws::{
+    equal_lines_are_least_squares, inverse_lines_are_least_squares, origin_lines_are_least_squares,
+    the_limits,
+};
+pub use point::{MOST_AMOUNT, MOST_POINTS, Point};
 pub use points::Points;

@@ -1,3 +1,4 @@
+//! The weights of a line, which are over the least common multiple of the amounts.
 ghost use Rattle.std.specs.Prelude.{◌≡◌, ◌^◌, ◌<◌, All};
 ghost use Rattle.std.specs.Option.{SomeIff};
 ghost use Rattle.cds_calib.specs.Points.{IsPoint, IsCalibration};

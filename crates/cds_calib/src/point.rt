@@ -1,11 +1,9 @@
+//! A point of a calibration.
 /// The most points of a calibration.
 pub const MOST_POINTS: usize = 64;
 
 /// The greatest amount of a point, in the unit of the sequence's amounts.
 pub const MOST_AMOUNT: u32 = 1_000_000_000;
-
-/// An area stays below this number of count milliseconds, 2^52.
-pub const AREA_LIMIT: u64 = 1 << 52;
 
 /// A point of a calibration: the amount that a standard states, and the reported area of its peak in count
 /// milliseconds.

@@ -1,15 +1,17 @@
+//! The points of a calibration.
 ghost use Rattle.std.specs.Prelude.{◌≡◌, ◌<◌, ◌≤◌, [], ◌↔◌, IsTrue, IfOk, length, insert, remove};
 ghost use Rattle.cds_calib.specs.Points.{IsCalibration};
 ghost use Rattle.cds_calib.specs.Sums.{sums_of, IsSmall};
 
-use crate::point::{AREA_LIMIT, MOST_AMOUNT, MOST_POINTS, Point};
+use crate::point::{MOST_AMOUNT, MOST_POINTS, Point};
 use crate::sums::Sums;
-use cds_base::NoMemory;
+use cds_base::{AREA_LIMIT, NoMemory};
 use std::alloc::Global;
 use std::marker::Model;
 
 /// The points of a calibration in their order, at most 64. Seen as their list. It takes all its memory when it is
-/// made, and keeps the plain sums of the list, so that a line of weight `Equal` or `Origin` costs the same however many points there are.
+/// made, and keeps the plain sums of the list, so that a line of weight `Equal` or `Origin` costs the same however
+/// many points there are.
 #[derive(Debug, Drop)]
 pub struct Points {
     items: Vec<Point>,
@@ -37,6 +39,20 @@ impl Points {
         Ok(Points {
             items: Vec::with_capacity(alloc, MOST_POINTS)?,
             sums: Sums::zero(),
+        })
+    }
+
+    /// The same points, with room for all that may come. The only refusal is want of memory.
+    pub fn copy(&self, alloc: Global) -> Result<Points, NoMemory>
+        ensures { IfOk result (λ points. points ≡ self.now) }
+    {
+        let mut items = Vec::with_capacity(alloc, MOST_POINTS)?;
+        for point in self.items.as_slice() {
+            items.push(*point)?;
+        }
+        Ok(Points {
+            items,
+            sums: self.sums,
         })
     }
 
@@ -75,7 +91,8 @@ impl Points {
 
     /// How many points there are.
     pub fn len(&self) -> usize
-        ensures { result ≡ length self.now }
+        ensures count { result ≡ length self.now }
+        ensures few { result ≤ MOST_POINTS }
     {
         self.items.len()
     }
@@ -99,7 +116,7 @@ impl Points {
     /// How many points there are, as a term of the sums.
     pub(crate) fn count(&self) -> u128
         ensures count { result ≡ length self.now }
-        ensures few { result ≤ 64 }
+        ensures few { result ≤ MOST_POINTS }
     {
         self.items.len() as u128
     }

@@ -1,7 +1,9 @@
+//! The plain sums of points.
 ghost use Rattle.std.specs.Prelude.{◌≡◌, ◌^◌, ◌<◌};
 ghost use Rattle.cds_calib.specs.Sums.{with_point, IsSmall, HasPoint};
 
 use crate::point::Point;
+use cds_base::AREA_LIMIT;
 
 /// The plain sums of a list of points: of the amounts x, the areas y, their squares and their products.
 #[derive(Clone, Copy, Debug)]
@@ -30,7 +32,7 @@ impl Sums {
     /// The sums with one point more.
     pub fn with(self, point: Point) -> Sums
         requires room { IsSmall self }
-        requires area { point.area < 2 ^ 52 }
+        requires area { point.area < AREA_LIMIT }
         ensures { result ≡ with_point self point }
     {
         let (x, y) = (u128::from(point.amount), u128::from(point.area));

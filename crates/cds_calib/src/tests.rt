@@ -1,5 +1,6 @@
-use crate::{AREA_LIMIT, MOST_AMOUNT, MOST_POINTS, Points, amount};
-use cds_base::{Missing, NoMemory};
+use crate::multiple::common_multiple;
+use crate::{MOST_AMOUNT, MOST_POINTS, Points, amount};
+use cds_base::{AREA_LIMIT, Missing, NoMemory};
 use cds_rules::Weight;
 use std::alloc::Global;
 use std::test::Fail;
@@ -154,6 +155,20 @@ fn lines_of_each_weight_and_why_there_is_none(rt: HostRuntime) -> Result<(), Fai
         let points = points(rt.alloc(), table, times)?;
         assert_eq!(rt; line(&points, weight), expected);
     }
+    Ok(())
+}
+
+#[test]
+fn weights_are_over_the_least_common_multiple(rt: HostRuntime) -> Result<(), Fail> {
+    let five: [(u32, u64); 5] = [(10, 105), (20, 205), (50, 505), (100, 1005), (200, 2005)];
+    let points = points(rt.alloc(), &five, 1)?;
+    // Sw is 37 and Sx 380, so the divisor is 37 * 380 - 25 * 200
+    assert_eq!(rt; common_multiple(points.as_slice()), Some(200));
+    let divisor = points.fit(Weight::Inverse).map(|fit| fit.divisor());
+    assert_eq!(rt; divisor, Ok(9_060));
+    let copy = points.copy(rt.alloc())?;
+    assert_eq!(rt; copy.as_slice(), points.as_slice());
+    assert_eq!(rt; line(&copy, Weight::Inverse), Ok([10, 1, 5, 1]));
     Ok(())
 }
 

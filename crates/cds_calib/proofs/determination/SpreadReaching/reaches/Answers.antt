@@ -5,7 +5,7 @@ use Rattle.std.proofs.lemmas.Nat.{mul-lt}
 use Rattle.std.proofs.lemmas.Int.{to_z_pos}
 use Rattle.cds_frac.specs.Fraction.{lowest_terms}
 use Rattle.cds_calib.proofs.Reached.{reaches_is}
-use Rattle.cds_calib.proofs.determination.Spread.reaches.Goals as goal
+use Rattle.cds_calib.proofs.determination.SpreadReaching.reaches.Goals as goal
 
 pub returns : goal.returns
 returns c =
