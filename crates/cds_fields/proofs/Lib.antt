@@ -3,3 +3,4 @@ pub mod Toml
 pub mod Lookup
 pub mod Unknown
 pub mod Judging
+pub mod Utf8

@@ -5,6 +5,7 @@ use Rattle.std.specs.List.{list_any}
 use Rattle.std.specs.Ordering.{nat_cmp, is_lt}
 use Rattle.std.specs.Str.{bytes_eq}
 use Rattle.cds_base.specs.Answers.{◌>>=◌, unless}
+use Rattle.cds_base.specs.NameText.{name_of}
 use Rattle.cds_fields.specs.Datum.{Datum, other, list_in, object_in}
 use Rattle.cds_fields.specs.Refusals.{Refusals}
 
@@ -128,3 +129,18 @@ each_value judge path told done (d ∷ ds) = do
 -- the values of a list one after the other, each judged with what those before it state
 abbrev pub each : {X E : Type 0} → (List X → Entry E → Result X E) → Entries E → Result (List X) E
 each judge es = each_value judge es.path es.told [] es.values
+
+-- the fields of an object that are left after `done`, whose names are Names, in byte order of these, each with what its value states
+unfoldable pub each_named : {X E : Type 0} → (Datum → Option X) → List ℕ → Refusals E → List (List ℕ × X) → List (List ℕ × Datum) → Result (List (List ℕ × X)) E
+each_named reads front told done [] = Ok done
+each_named reads front told done (f ∷ fs) = do
+  name ← ok_or (name_of f.0) (told.range (front ++ f.0))
+  x ← ok_or (reads f.1) (told.range (front ++ f.0))
+  each_named reads front told (done ++ (name, x) ∷ []) fs
+
+-- a section of at most so many fields, whose names are Names, each with what its value states
+unfoldable pub named : {X E : Type 0} → (Datum → Option X) → ℕ → List ℕ → Section E → Result (List (List ℕ × X)) E
+named reads most name s = do
+  object ← section name s
+  _ ← unless (if nat_lt most (length object.fields) then Some (s.told.too_many (path_of name s)) else None)
+  each_named reads object.front s.told [] object.fields

@@ -10,8 +10,10 @@ mod event;
 mod json_value;
 mod laws;
 mod limits;
+mod named;
 mod refusal;
 mod section;
+mod text;
 mod toml_value;
 mod value;
 
@@ -19,6 +21,11 @@ pub use entries::{Entries, Entry};
 pub use event::events;
 pub use laws::the_limits;
 pub use limits::{MOST_EVENTS, MOST_SLOPE};
+pub use named::named_numbers;
 pub use refusal::Refusal;
 pub use section::Section;
+pub use text::{read_json, read_toml};
 pub use value::{TextValue, name_in, number_in, signed_in};
+
+#[cfg(test)]
+mod tests;

@@ -231,7 +231,7 @@ impl<'a, V: TextValue, E: Refusal> Section<'a, V, E> {
     }
 
     /// The refusal of a value of a wrong kind or outside its range.
-    fn out_of_range(&self, name: &str) -> E
+    pub(crate) fn out_of_range(&self, name: &str) -> E
         ensures { Tells E.told (E.told.range (path_of name.now (seen V.shown E.told self.now))) result }
     {
         match self.path(name) {
@@ -251,7 +251,7 @@ impl<'a, V: TextValue, E: Refusal> Section<'a, V, E> {
     }
 
     /// The refusal of a list of too many values.
-    fn too_many(&self, name: &str) -> E
+    pub(crate) fn too_many(&self, name: &str) -> E
         ensures { Tells E.told (E.told.too_many (path_of name.now (seen V.shown E.told self.now))) result }
     {
         match self.path(name) {

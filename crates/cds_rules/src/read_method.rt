@@ -1,12 +1,9 @@
 //! Reading a method from its text.
-ghost use Rattle.std.specs.Prelude.{ok_or, IfOk};
-ghost use Rattle.toml.specs.View.{view};
+ghost use Rattle.std.specs.Prelude.{IfOk};
 ghost use Rattle.cds_base.specs.Answers.{Gives};
 ghost use Rattle.cds_fields.specs.Event.{EventRanges};
 ghost use Rattle.cds_fields.specs.Section.{only};
-ghost use Rattle.cds_fields.specs.Seen.{fields_seen};
-ghost use Rattle.cds_fields.specs.Toml.{of_toml, toml_fields};
-ghost use Rattle.cds_rules.specs.declared.error.MethodError.TheVariants.{NotToml, NoMemory};
+ghost use Rattle.cds_rules.specs.declared.error.MethodError.TheVariants.{NoMemory};
 ghost use Rattle.cds_rules.specs.Fields.{fields_of};
 ghost use Rattle.cds_rules.specs.Seen.{seen};
 ghost use Rattle.cds_rules.specs.Stated.{method_of, method_events, top_fields, stated};
@@ -18,9 +15,9 @@ use crate::read_check::checks;
 use crate::read_component::components;
 use crate::read_settings::settings;
 use cds_base::EventList;
-use cds_fields::{MOST_EVENTS, Section};
+use cds_fields::{MOST_EVENTS, Section, read_toml};
 use std::alloc::Global;
-use toml::{Table, Value};
+use toml::Value;
 
 impl Method {
     /// The method that a text states, which is TOML in UTF-8. Where it states none, its first refusal: TooLong
@@ -36,23 +33,10 @@ impl Method {
         if bytes.len() > MOST_METHOD_BYTES {
             return Err(MethodError::TooLong);
         }
-        let table = table(alloc, bytes)?;
+        let Some(table) = read_toml(alloc, bytes)? else {
+            return Err(MethodError::NotToml);
+        };
         method(&Section::top(alloc, &table))
-    }
-}
-
-/// The table of a text, which is TOML in UTF-8.
-fn table(alloc: Global, bytes: &[u8]) -> Result<Table, MethodError>
-    ensures { Gives NoMemory (λ t. fields_seen (λ v. of_toml (view v)) t.entries) (ok_or (toml_fields bytes.now) NotToml) result }
-{
-    match toml::table_from_slice(alloc, bytes) {
-        Ok(table) => Ok(table),
-        Err(error) => {
-            if error.is_memory() {
-                return Err(MethodError::NoMemory);
-            }
-            Err(MethodError::NotToml)
-        }
     }
 }
 

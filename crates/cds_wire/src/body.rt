@@ -9,7 +9,7 @@ ghost use Rattle.cds_wire.specs.Stated.{whole};
 
 use crate::error::BodyError;
 use cds_base::Text;
-use cds_fields::{Section, TextValue};
+use cds_fields::{Section, TextValue, read_json};
 use serde_json::Value;
 use std::alloc::Global;
 
@@ -17,14 +17,10 @@ use std::alloc::Global;
 pub(crate) fn document(alloc: Global, bytes: &[u8]) -> Result<Value, BodyError>
     ensures { Gives NoMemory (λ v. of_json (view v)) (ok_or (json_value bytes.now) Json) result }
 {
-    match Value::from_slice(alloc, bytes) {
-        Ok(value) => Ok(value),
-        Err(error) => {
-            if error.is_memory() {
-                return Err(BodyError::NoMemory);
-            }
-            Err(BodyError::Json)
-        }
+    match read_json(alloc, bytes) {
+        Ok(Some(value)) => Ok(value),
+        Ok(None) => Err(BodyError::Json),
+        Err(_) => Err(BodyError::NoMemory),
     }
 }
 
