@@ -56,7 +56,8 @@ impl Fit {
     /// the intercept, is `PART_LIMIT`, 2^126, or more in absolute value, D being the divisor.
     pub(crate) fn undiluted(&self, area: u64) -> Option<Frac>
         requires { area < AREA_LIMIT }
-        ensures number { SomeIff result (IsTrue (undiluted_fits self.now.weight self.now area)) (undiluted self.now area) }
+        ensures number { SomeIff result (IsTrue (undiluted_fits self.now.weight self.now area))
+            (undiluted self.now area) }
         ensures shape { IsFit self.now }
     {
         let scaled = product_below_limit(u128::from(area), self.divisor)?;
@@ -152,7 +153,8 @@ impl Points {
         requires two { IsTrue (differ self.now) }
         requires multiple { multiple ≡ common_multiple self.now }
         requires below { multiple < LCM_LIMIT }
-        ensures { result ≡ (if weights_fit multiple self.now then rising (inverse_line multiple self.now) else Err Missing.Unfit) }
+        ensures { result ≡
+            (if weights_fit multiple self.now then rising (inverse_line multiple self.now) else Err Missing.Unfit) }
     {
         let (n, sums) = (self.count(), self.sums());
         let weighted = weighted_sums(self.as_slice(), multiple);

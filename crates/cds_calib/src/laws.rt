@@ -8,7 +8,8 @@ ghost use Rattle.cds_calib.specs.LeastSquares.{MeetsNormalEquations};
 ghost use Rattle.cds_calib.specs.Points.{IsCalibration, sum_xx, sum_xy};
 ghost use Rattle.cds_rules.specs.declared.method.Weight.TheVariants.{Equal, Origin, Inverse};
 
-/// A line of weight `Equal` is the least squares line: with 1 as the weight of each point it meets the normal equations.
+/// A line of weight `Equal` is the least squares line: with 1 as the weight of each point it meets the normal
+/// equations.
 pub fn equal_lines_are_least_squares()
     ensures { (points : List Point) (line : CalibrationLine) → fit_of Equal points ≡ Ok line
         → MeetsNormalEquations (λ p. 1) points line }

@@ -31,7 +31,8 @@ impl<'a, V: TextValue, E: Refusal> Entries<'a, V, E> {
     ghost use Rattle.cds_fields.specs.Seen.{list_seen, entry_seen};
 
     pub(crate) fn new(alloc: Global, path: String, values: &'a [V]) -> Entries<'a, V, E>
-        ensures seen { list_seen V.shown E.told result ≡ record { path = string_bytes path; values = map V.shown values.now; told = E.told } }
+        ensures seen { list_seen V.shown E.told result
+            ≡ record { path = string_bytes path; values = map V.shown values.now; told = E.told } }
         ensures values { result.values.now ≡ values.now }
     {
         Entries {
@@ -57,7 +58,8 @@ impl<'a, V: TextValue, E: Refusal> Entries<'a, V, E> {
     /// The entry at a place, counted from 0. Its only refusal is want of memory.
     pub fn at(&self, place: usize) -> Result<Entry<'a, V, E>, E>
         requires { place < length (list_seen V.shown E.told self.now).values }
-        ensures value { IfOk result (λ entry. entry_seen V.shown E.told entry ≡ entry_at place (list_seen V.shown E.told self.now)) }
+        ensures value { IfOk result
+            (λ entry. entry_seen V.shown E.told entry ≡ entry_at place (list_seen V.shown E.told self.now)) }
         ensures memory { IfErr result (λ e. e ≡ E.told.wanting) }
     {
         let list = self.path.as_str();
@@ -82,7 +84,8 @@ impl<'a, V: TextValue, E: Refusal> Entry<'a, V, E> {
 
     /// The whole number from `least` to `most` that the entry states.
     pub fn number(&self, least: u64, most: u64) -> Result<u64, E>
-        ensures value { Judges E.told (λ n. n) (stated_by (number_in least most) (entry_seen V.shown E.told self.now)) result }
+        ensures value { Judges E.told (λ n. n)
+            (stated_by (number_in least most) (entry_seen V.shown E.told self.now)) result }
         ensures least { IfOk result (λ n. least ≤ n) }
         ensures most { IfOk result (λ n. n ≤ most) }
     {

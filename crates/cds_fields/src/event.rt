@@ -65,7 +65,8 @@ fn event<V: TextValue, E: Refusal>(entry: &Entry<V, E>) -> Result<Event, E>
 /// The window of an event, which begins before it ends.
 #[tactic(auto, unfolding(crate::specs::Event::window_of))]
 fn window<V: TextValue, E: Refusal>(section: &Section<V, E>) -> Result<(u32, u32), E>
-    ensures value { (kind : ℕ → ℕ → Event) → Judges E.told (λ w. kind w.0 w.1) (window_of kind (seen V.shown E.told section.now)) result }
+    ensures value { (kind : ℕ → ℕ → Event) → Judges E.told (λ w. kind w.0 w.1)
+        (window_of kind (seen V.shown E.told section.now)) result }
     ensures order { IfOk result (λ w. w.0 < w.1) }
     ensures most { IfOk result (λ w. w.1 ≤ LAST_TIME_MS) }
 {

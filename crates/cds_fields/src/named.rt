@@ -20,7 +20,8 @@ pub fn named_numbers<V: TextValue, E: Refusal>(
     least: i64,
     most: i64,
 ) -> Result<Vec<(Name, i64)>, E>
-    ensures value { Judges E.told (λ v. v.items) (named (signed_in least most) count name.now (seen V.shown E.told section.now)) result }
+    ensures value { Judges E.told (λ v. v.items)
+        (named (signed_in least most) count name.now (seen V.shown E.told section.now)) result }
     ensures count { IfOk result (λ v. length v.items ≤ count) }
 {
     let object = section.section(name)?;
@@ -37,7 +38,9 @@ fn each_number<V: TextValue, E: Refusal>(
     least: i64,
     most: i64,
 ) -> Result<Vec<(Name, i64)>, E>
-    ensures value { Judges E.told (λ v. v.items) (each_named (signed_in least most) (seen V.shown E.told section.now).front E.told [] (seen V.shown E.told section.now).fields) result }
+    ensures value { Judges E.told (λ v. v.items)
+        (each_named (signed_in least most) (seen V.shown E.told section.now).front E.told []
+            (seen V.shown E.told section.now).fields) result }
     ensures count { IfOk result (λ v. length v.items ≡ length section.now.fields.now.entries) }
 {
     let mut numbers = Vec::new(section.alloc);

@@ -1,12 +1,13 @@
 //! A table or an object, and the judging of its fields one by one.
-ghost use Rattle.std.specs.Prelude.{◌≡◌, ◌≤◌, ◌≤ℤ◌, ◌++◌, ℕ, ℤ, Some, option_map, option_copied, string_bytes, string_cmp, IfOk, map, length, find, not, codes};
+ghost use Rattle.std.specs.Prelude.{◌≡◌, ◌≤◌, ◌++◌, ℕ, Some, IfOk, length, map, find, not, codes};
+ghost use Rattle.std.specs.Prelude.{option_map, option_copied, string_bytes, string_cmp};
 ghost use Rattle.std.specs.BTreeMap.{keys, IsOrdered};
 ghost use Rattle.std.specs.List.{list_any};
 ghost use Rattle.std.specs.Str.{bytes_eq};
 
 use crate::entries::Entries;
 use crate::refusal::Refusal;
-use crate::value::{TextValue, name_in, number_in, signed_in};
+use crate::value::{TextValue, name_in, number_in};
 use cds_base::{Name, Text};
 use std::alloc::{AllocError, Global};
 use std::collections::BTreeMap;
@@ -27,13 +28,15 @@ impl<'a, V: TextValue, E: Refusal> Section<'a, V, E> {
     ghost use Rattle.std.specs.Prelude.{[]};
     ghost use Rattle.cds_fields.specs.Datum.{flag_in};
     ghost use Rattle.cds_fields.specs.Refusals.{Judges, Tells};
-    ghost use Rattle.cds_fields.specs.Section.{field_at, has, path_of, needed, in_range, required, optional, section, only, entries, optional_entries};
+    ghost use Rattle.cds_fields.specs.Section.{field_at, has, path_of, needed, in_range, required, optional};
+    ghost use Rattle.cds_fields.specs.Section.{section, only, entries, optional_entries};
     ghost use Rattle.cds_fields.specs.Seen.{seen, fields_seen, list_seen};
-    ghost use Rattle.cds_fields.specs.Values.{number_in, signed_in, name_in};
+    ghost use Rattle.cds_fields.specs.Values.{number_in, name_in};
 
     /// The whole text, whose fields have their names as paths. It takes no memory.
     pub fn top(alloc: Global, fields: &'a BTreeMap<String, V>) -> Section<'a, V, E>
-        ensures { seen V.shown E.told result ≡ record { front = []; fields = fields_seen V.shown fields.now.entries; told = E.told } }
+        ensures { seen V.shown E.told result
+            ≡ record { front = []; fields = fields_seen V.shown fields.now.entries; told = E.told } }
     {
         Section {
             alloc,
@@ -79,7 +82,8 @@ impl<'a, V: TextValue, E: Refusal> Section<'a, V, E> {
     /// The whole number from `least` to `most` that a field states.
     #[tactic(auto, unfolding(crate::specs::Section::required))]
     pub fn number(&self, name: &str, least: u64, most: u64) -> Result<u64, E>
-        ensures value { Judges E.told (λ n. n) (required (number_in least most) name.now (seen V.shown E.told self.now)) result }
+        ensures value { Judges E.told (λ n. n)
+            (required (number_in least most) name.now (seen V.shown E.told self.now)) result }
         ensures least { IfOk result (λ n. least ≤ n) }
         ensures most { IfOk result (λ n. n ≤ most) }
     {
@@ -93,7 +97,8 @@ impl<'a, V: TextValue, E: Refusal> Section<'a, V, E> {
     /// The whole number from `least` to `most` that a field states, if it is there.
     #[tactic(auto, unfolding(crate::specs::Section::optional))]
     pub fn optional_number(&self, name: &str, least: u64, most: u64) -> Result<Option<u64>, E>
-        ensures value { Judges E.told (λ n. n) (optional (number_in least most) name.now (seen V.shown E.told self.now)) result }
+        ensures value { Judges E.told (λ n. n)
+            (optional (number_in least most) name.now (seen V.shown E.told self.now)) result }
         ensures least { IfOk result (λ n. (x : ℕ) → n ≡ Some x → least ≤ x) }
         ensures most { IfOk result (λ n. (x : ℕ) → n ≡ Some x → x ≤ most) }
     {
@@ -149,7 +154,8 @@ impl<'a, V: TextValue, E: Refusal> Section<'a, V, E> {
     /// The list of `least` to `most` values that a field is.
     #[tactic(auto, unfolding(crate::specs::Section::entries, crate::specs::Section::required))]
     pub fn entries(&self, name: &str, least: usize, most: usize) -> Result<Entries<'a, V, E>, E>
-        ensures value { Judges E.told (list_seen V.shown E.told) (entries least most name.now (seen V.shown E.told self.now)) result }
+        ensures value { Judges E.told (list_seen V.shown E.told)
+            (entries least most name.now (seen V.shown E.told self.now)) result }
         ensures least { IfOk result (λ es. least ≤ length es.values.now) }
         ensures most { IfOk result (λ es. length es.values.now ≤ most) }
     {
@@ -172,7 +178,8 @@ impl<'a, V: TextValue, E: Refusal> Section<'a, V, E> {
     /// The list of at most `most` values that a field is, which is empty where it is absent.
     #[tactic(auto, unfolding(crate::specs::Section::optional_entries))]
     pub fn optional_entries(&self, name: &str, most: usize) -> Result<Entries<'a, V, E>, E>
-        ensures value { Judges E.told (list_seen V.shown E.told) (optional_entries most name.now (seen V.shown E.told self.now)) result }
+        ensures value { Judges E.told (list_seen V.shown E.told)
+            (optional_entries most name.now (seen V.shown E.told self.now)) result }
         ensures most { IfOk result (λ es. length es.values.now ≤ most) }
     {
         if self.has(name) {
@@ -213,7 +220,8 @@ impl<'a, V: TextValue, E: Refusal> Section<'a, V, E> {
 
     /// What stands before the names of the fields that a field has.
     fn front_of(&self, name: &str) -> Result<String, AllocError>
-        ensures { IfOk result (λ text. string_bytes text ≡ path_of name.now (seen V.shown E.told self.now) ++ codes ".") }
+        ensures { IfOk result
+            (λ text. string_bytes text ≡ path_of name.now (seen V.shown E.told self.now) ++ codes ".") }
     {
         let mut front = self.path(name)?;
         front.push_str(".")?;
@@ -264,7 +272,8 @@ impl<'a, V: TextValue, E: Refusal> Section<'a, V, E> {
 /// The first key that is none of these; the keys of a map stand in byte order.
 fn first_unknown<'a, V>(fields: &'a BTreeMap<String, V>, known: &[&str]) -> Option<&'a String>
     ensures ordered { IsOrdered string_cmp fields.now }
-    ensures found { option_copied result ≡ find (λ name. not (list_any (λ word. bytes_eq (string_bytes name) word.now) known.now)) (keys fields.now) }
+    ensures found { option_copied result ≡ find
+        (λ name. not (list_any (λ word. bytes_eq (string_bytes name) word.now) known.now)) (keys fields.now) }
 {
     fields.keys().find(|name| !is_among(name.as_str(), known))
 }

@@ -28,7 +28,8 @@ pub fn read_json(alloc: Global, text: &[u8]) -> Result<Option<Value>, NoMemory>
 
 /// The table of a text, which is TOML in UTF-8. None exactly where the text is none. Err only for want of memory.
 pub fn read_toml(alloc: Global, text: &[u8]) -> Result<Option<Table>, NoMemory>
-    ensures { IfOk result (λ table. option_map (λ t. fields_seen (λ v. of_toml (toml_view v)) t.entries) table ≡ toml_fields text.now) }
+    ensures { IfOk result
+        (λ table. option_map (λ t. fields_seen (λ v. of_toml (toml_view v)) t.entries) table ≡ toml_fields text.now) }
 {
     match toml::table_from_slice(alloc, text) {
         Ok(table) => Ok(Some(table)),

@@ -75,7 +75,8 @@ fn component(
     section: &Section<Value, MethodError>,
 ) -> Result<u32, MethodError>
     requires { length components.now ≤ MOST_COMPONENTS }
-    ensures value { Gives NoMemory (λ x. x) (required (component_in components.now) (codes "component") (seen section.now)) result }
+    ensures value { Gives NoMemory (λ x. x)
+        (required (component_in components.now) (codes "component") (seen section.now)) result }
     ensures least { IfOk result (λ n. 1 ≤ n) }
     ensures most { IfOk result (λ n. n ≤ length components.now) }
 {

@@ -81,7 +81,8 @@ struct Noise {
 /// The noise window: where one end is there both must be.
 #[tactic(auto, unfolding(crate::specs::Stated::noise_of))]
 fn noise_window(section: &Section<Value, MethodError>) -> Result<Noise, MethodError>
-    ensures { Gives NoMemory (λ x. record { from_ms = x.from_ms; to_ms = x.to_ms }) (noise_of (seen section.now)) result }
+    ensures { Gives NoMemory (λ x. record { from_ms = x.from_ms; to_ms = x.to_ms })
+        (noise_of (seen section.now)) result }
 {
     if !section.has("noise_from_ms") && !section.has("noise_to_ms") {
         return Ok(Noise {
