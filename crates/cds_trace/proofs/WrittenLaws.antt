@@ -1,35 +1,27 @@
 -- Laws of the text that is written of a trace: it states the trace.
-use Rattle.std.proofs.Common.{◌≡◌, ◌∙◌, ℕ, ◌+◌, ◌-◌, ◌*◌, ◌^◌, ◌<◌, ◌≤◌, Bool, true, false, not, ℤ, pos, negsuc, List, [], ◌∷◌, ◌++◌, Some, Ok, All, get_or, length, suc, drop, append_assoc, add-one, arith, ap, sym, refl}
-use Rattle.std.specs.Prelude.{◌==◌, ◌||◌, codes, decimal, nat_le, nat_lt}
+use Rattle.std.proofs.Common.{◌≡◌, ◌∙◌, ℕ, ◌+◌, ◌-◌, ◌*◌, ◌^◌, ◌<◌, ◌≤◌, true, false, ℤ, pos, negsuc, List, [], ◌∷◌, ◌++◌, Some, Ok, All, get_or, length, suc, drop, append_assoc, add-one, arith, ap, sym, refl}
+use Rattle.std.specs.Prelude.{codes, decimal, nat_le, nat_lt}
 use Rattle.std.specs.Char.{digit_value, is_ascii_digit}
 use Rattle.std.specs.Fmt.{signed_decimal}
-use Rattle.std.specs.List.{list_all, prefix_len, suffix_len}
+use Rattle.std.specs.List.{list_all}
 use Rattle.std.specs.Str.Parse.{AllDigits, digits_value, starts_with_minus}
 use Rattle.std.proofs.lemmas.Bool.Decides.{nat_tests}
 use Rattle.std.proofs.lemmas.Fmt.{decimal_is_IsNumeral, length-decimal-le}
 use Rattle.std.proofs.lemmas.Int.{ints}
-use Rattle.std.proofs.lemmas.List.{append-nil, drop_all, drop_more, take_all}
+use Rattle.std.proofs.lemmas.List.{append-nil, drop_all, drop_more}
 use Rattle.std.proofs.Math.Nat.{mul-le-mul_right}
 use Rattle.std.proofs.lemmas.List.Elements.{All-head, All-tail}
-use Rattle.std.proofs.lemmas.List.Sums.{AllPass-from_list_all, suffix_len_is}
 use Rattle.csv.specs.Reading.{default_config, records, records_from, strip_bom}
 use Rattle.csv.specs.declared.parser.State.TheVariants as st
 use Rattle.cds_base.specs.declared.time.TheConstants.{LAST_TIME_US}
 use Rattle.cds_trace.specs.declared.trace.TheConstants.{MOST_SAMPLES}
-use Rattle.cds_trace.specs.Number.{digits_number, is_blank, number_of, without_blanks}
+use Rattle.cds_trace.specs.Number.{digits_number, number_of}
 use Rattle.cds_trace.specs.Signal.{IsSample, IsTrace, Signal}
 use Rattle.cds_trace.specs.TraceText.{Fields, csv_trace, period_of, sample_of, samples_of}
 use Rattle.cds_trace.specs.WrittenText.{csv_text, line_of, lines_of}
+use Rattle.cds_trace.proofs.NumberLaws.{is_number_byte, list_all-implies, minus_bytes, number_bytes-digits, without_blanks-number}
 use Rattle.cds_trace.proofs.LineLaws.{is_plain, next_record-line}
 use Rattle.cds_trace.proofs.RecordLaws.{records_from-end, records_from-some}
-
--- a digit or a `-`
-abbrev is_number_byte : ℕ → Bool
-is_number_byte byte = is_ascii_digit byte || (byte == 45)
-
-list_all-implies : (p q : ℕ → Bool) → ((x : ℕ) → p x ≡ true → q x ≡ true) → (xs : List ℕ) → list_all p xs ≡ true → list_all q xs ≡ true
-list_all-implies p q more [] h = refl
-list_all-implies p q more (x ∷ xs) h = let one = more x (grind arith) in let rest = list_all-implies p q more xs (grind arith) in grind arith
 
 digit-is : (byte : ℕ) → digit_value byte < 10 → is_ascii_digit byte ≡ true
 digit-is byte h = grind (arith, nat_tests)
@@ -40,22 +32,6 @@ list_all-digits (d ∷ ds) h = let one = digit-is d h.0 in let rest = list_all-d
 
 plain-number : (xs : List ℕ) → list_all is_number_byte xs ≡ true → list_all is_plain xs ≡ true
 plain-number xs h = list_all-implies is_number_byte is_plain (λ x e. grind (arith, nat_tests)) xs h
-
--- bytes none of which is a blank lose nothing
-prefix_len-none : (p : ℕ → Bool) (xs : List ℕ) → list_all (λ x. not (p x)) xs ≡ true → prefix_len p xs ≡ 0
-prefix_len-none p [] h = refl
-prefix_len-none p (x ∷ xs) h = grind arith
-
-suffix_len-none : (p : ℕ → Bool) (xs : List ℕ) → list_all (λ x. not (p x)) xs ≡ true → suffix_len p xs ≡ 0
-suffix_len-none p xs h =
-    let each = AllPass-from_list_all (λ x. not (p x)) xs h in
-    let none = suffix_len_is p xs (length xs) 0 (omega arith) (λ k low high. absurd (omega arith)) (λ some. let last = each (length xs - 1) 0 (omega arith) in grind arith) in
-    omega (arith, none)
-
-without_blanks-number : (xs : List ℕ) → list_all is_number_byte xs ≡ true → without_blanks xs ≡ xs
-without_blanks-number xs h =
-    let none = list_all-implies is_number_byte (λ x. not (is_blank x)) (λ x e. grind (arith, nat_tests)) xs h in
-    rw (prefix_len-none is_blank xs none, suffix_len-none is_blank xs none) (take_all (length xs - 0) xs (omega arith))
 
 -- what the digits of a number of at most 12 digits are
 record IsWritten (n : ℕ) : Type 0 where
@@ -74,9 +50,6 @@ decimal-IsWritten n h =
       value = numeral.1;
     }
 
-number_bytes-digits : (xs : List ℕ) → list_all is_ascii_digit xs ≡ true → list_all is_number_byte xs ≡ true
-number_bytes-digits xs h = list_all-implies is_ascii_digit is_number_byte (λ x e. grind arith) xs h
-
 digits_number-decimal : (n : ℕ) → IsWritten n → digits_number (decimal n) ≡ Some n
 digits_number-decimal n w =
     let low : nat_le 1 (length (decimal n)) ≡ true = grind (arith, nat_tests, w.some) in
@@ -93,9 +66,6 @@ unfolding number_of
 number_of-decimal n h =
     let w = decimal-IsWritten n h in
     rw (without_blanks-number (decimal n) (number_bytes-digits (decimal n) w.digits), no_minus (decimal n) w.some w.digits, digits_number-decimal n w) refl
-
-minus_bytes : (xs : List ℕ) → list_all is_ascii_digit xs ≡ true → list_all is_number_byte (45 ∷ xs) ≡ true
-minus_bytes xs h = let rest = number_bytes-digits xs h in rest
 
 number_of-signed_decimal : (sample : ℤ) → IsSample sample → number_of (signed_decimal sample) ≡ Some sample
 unfolding number_of

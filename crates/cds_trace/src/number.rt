@@ -6,16 +6,19 @@ ghost use Rattle.cds_trace.specs.Number.{digits_number, is_blank, number_of, sig
 /// The most digits of a number in the text of a trace.
 pub const MOST_DIGITS: usize = 12;
 
-// The number that a field writes between the blanks at its ends: an optional `-` and 1 to 12 digits.
+/// The number that a field writes between the blanks at its ends: an optional `-` and 1 to 12 digits.
 #[tactic(auto, unfolding(crate::specs::Number::number_of))]
 pub(crate) fn number(field: &[u8]) -> Option<i64>
     ensures value { result ≡ number_of field.now }
     ensures size { IfSome result (λ n. (neg_ℤ (pos (10 ^ 12)) ≤ℤ n) × (n ≤ℤ pos (10 ^ 12))) }
 {
+    if let Some(number) = signed_number(field) {
+        return Some(number);
+    }
     signed_number(without_blanks(field))
 }
 
-// The number that an optional `-` and 1 to 12 digits write.
+/// The number that an optional `-` and 1 to 12 digits write.
 fn signed_number(bytes: &[u8]) -> Option<i64>
     ensures value { result ≡ signed_number bytes.now }
     ensures size { IfSome result (λ n. (neg_ℤ (pos (10 ^ 12)) ≤ℤ n) × (n ≤ℤ pos (10 ^ 12))) }
@@ -27,7 +30,7 @@ fn signed_number(bytes: &[u8]) -> Option<i64>
     }
 }
 
-// The number that 1 to 12 digits write.
+/// The number that 1 to 12 digits write.
 fn digits_number(bytes: &[u8]) -> Option<u64>
     ensures value { result ≡ digits_number bytes.now }
     ensures size { IfSome result (λ n. n < 10 ^ 12) }
@@ -45,7 +48,7 @@ fn digits_number(bytes: &[u8]) -> Option<u64>
     Some(value)
 }
 
-// A field without the spaces and tabs at its ends.
+/// A field without the spaces and tabs at its ends.
 pub(crate) fn without_blanks(field: &[u8]) -> &[u8]
     ensures { result.now ≡ without_blanks field.now }
 {
@@ -53,7 +56,7 @@ pub(crate) fn without_blanks(field: &[u8]) -> &[u8]
     &rest[..rest.len() - last_blanks(rest)]
 }
 
-// How many blanks the bytes begin with.
+/// How many blanks the bytes begin with.
 fn first_blanks(bytes: &[u8]) -> usize
     ensures value { result ≡ prefix_len is_blank bytes.now }
     ensures size { result ≤ length bytes.now }
@@ -66,7 +69,7 @@ fn first_blanks(bytes: &[u8]) -> usize
     bytes.len()
 }
 
-// How many blanks the bytes end with.
+/// How many blanks the bytes end with.
 fn last_blanks(bytes: &[u8]) -> usize
     ensures value { result ≡ suffix_len is_blank bytes.now }
     ensures size { result ≤ length bytes.now }
@@ -80,6 +83,7 @@ fn last_blanks(bytes: &[u8]) -> usize
     len
 }
 
+/// Whether a byte is a space or a tab.
 fn is_blank(byte: u8) -> bool
     ensures { result ≡ is_blank byte }
 {

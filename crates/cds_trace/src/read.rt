@@ -19,6 +19,11 @@ use std::alloc::Global;
 /// The fewest bytes that state a sample, as in `0,1` and a line feed.
 const FEWEST_BYTES_OF_SAMPLE: usize = 4;
 
+/// The bytes and the fields for which a record has room from the start on, so that few records let it grow.
+const BYTES_OF_ROW: usize = 64;
+
+const FIELDS_OF_ROW: usize = 4;
+
 impl Trace {
     /// The trace that the bytes state as CSV: the header `time_us,signal`, and for each sample a record of its time
     /// in microseconds and its value. Records are those of the `csv` crate with its defaults, behind a byte order
@@ -38,7 +43,7 @@ impl Trace {
             .has_headers(false)
             .flexible(true)
             .from_reader(alloc, bytes);
-        let mut row = ByteRecord::new(alloc);
+        let mut row = ByteRecord::with_capacity(alloc, BYTES_OF_ROW, FIELDS_OF_ROW)?;
         if !next_row(&mut reader, &mut row)? {
             return Err(TraceError::BadHeader);
         }
@@ -50,7 +55,7 @@ impl Trace {
     }
 }
 
-// The trace that the records behind the header state. There is room for so many samples from the start on.
+/// The trace that the records behind the header state. There is room for so many samples from the start on.
 fn read_samples(
     alloc: Global,
     reader: &mut Reader<&[u8]>,
@@ -75,7 +80,7 @@ fn read_samples(
     finished(alloc, period, samples)
 }
 
-// Reads the next record, if there is one.
+/// Reads the next record, if there is one.
 fn next_row(reader: &mut Reader<&[u8]>, row: &mut ByteRecord) -> Result<bool, TraceError>
     requires { IsReading reader.old }
     ensures reading { IfOk result (λ found. found ≡ true → IsReading reader.new) }
@@ -89,7 +94,7 @@ fn next_row(reader: &mut Reader<&[u8]>, row: &mut ByteRecord) -> Result<bool, Tr
     }
 }
 
-// A read of bytes in memory fails for want of memory alone.
+/// A read of bytes in memory fails for want of memory alone.
 fn no_memory(error: csv::Error) -> TraceError
     requires { stops_reader (error_kind error) ≡ true }
     ensures { result ≡ NoMemory }
@@ -97,7 +102,7 @@ fn no_memory(error: csv::Error) -> TraceError
     TraceError::NoMemory
 }
 
-// The trace of the samples of a whole text.
+/// The trace of the samples of a whole text.
 fn finished(alloc: Global, period: u64, samples: Vec<i32>) -> Result<Trace, TraceError>
     requires { FEWEST_SAMPLES ≤ length samples.items → IsTrace (record { period = period; samples = samples.items }) }
     ensures { Reads result (trace_of_samples period (Ok samples.items)) }
@@ -108,7 +113,7 @@ fn finished(alloc: Global, period: u64, samples: Vec<i32>) -> Result<Trace, Trac
     Ok(Trace::of_samples(alloc, period, samples)?)
 }
 
-// The period so far, once the record of the sample of this index is read.
+/// The period so far, once the record of the sample of this index is read.
 fn period_at(period: u64, index: u32, row: &ByteRecord) -> u64
     requires { period ≤ 10 ^ 12 }
     ensures value { result ≡ period_at period index (fields_of row.now) }
@@ -117,7 +122,7 @@ fn period_at(period: u64, index: u32, row: &ByteRecord) -> u64
     if index == 1 { time_of(row) } else { period }
 }
 
-// The time that a record states, 0 where it states none.
+/// The time that a record states, 0 where it states none.
 fn time_of(row: &ByteRecord) -> u64
     ensures value { result ≡ time_of (fields_of row.now) }
     ensures size { result ≤ 10 ^ 12 }
@@ -128,7 +133,7 @@ fn time_of(row: &ByteRecord) -> u64
     }
 }
 
-// The sample of this index that a record states, or what is wrong with the record.
+/// The sample of this index that a record states, or what is wrong with the record.
 fn sample_of(period: u64, index: u32, row: &ByteRecord) -> Result<i32, TraceError>
     requires size { period ≤ 10 ^ 12 }
     requires place { index < MOST_SAMPLES }
@@ -147,7 +152,7 @@ fn sample_of(period: u64, index: u32, row: &ByteRecord) -> Result<i32, TraceErro
     sample_of_numbers(period, index, time, sample)
 }
 
-// The sample that a time and a sample state, or what is wrong with them.
+/// The sample that a time and a sample state, or what is wrong with them.
 fn sample_of_numbers(period: u64, index: u32, time: i64, sample: i64) -> Result<i32, TraceError>
     requires size { period ≤ 10 ^ 12 }
     requires place { index < MOST_SAMPLES }
@@ -164,13 +169,14 @@ fn sample_of_numbers(period: u64, index: u32, time: i64, sample: i64) -> Result<
     Ok(sample as i32)
 }
 
+/// Whether a number may be a time.
 fn is_time(time: i64) -> bool
     ensures { result ≡ is_time time }
 {
     0 <= time && time <= LAST_TIME_US as i64
 }
 
-// The number in a field of a record.
+/// The number in a field of a record.
 fn number_at(row: &ByteRecord, place: usize) -> Option<i64>
     ensures value { result ≡ option_and_then number_of (field_at (fields_of row.now) place) }
     ensures size { IfSome result (λ n. (neg_ℤ (pos (10 ^ 12)) ≤ℤ n) × (n ≤ℤ pos (10 ^ 12))) }
@@ -181,14 +187,14 @@ fn number_at(row: &ByteRecord, place: usize) -> Option<i64>
     }
 }
 
-// Whether a record is `time_us` and `signal`.
+/// Whether a record is `time_us` and `signal`.
 fn is_header(row: &ByteRecord) -> bool
     ensures { result ≡ is_header (fields_of row.now) }
 {
     row.len() == 2 && is_word_at(row, 0, b"time_us") && is_word_at(row, 1, b"signal")
 }
 
-// Whether a field of a record is this word, but for blanks at its ends.
+/// Whether a field of a record is this word, but for blanks at its ends.
 fn is_word_at(row: &ByteRecord, place: usize, word: &[u8]) -> bool
     ensures { result ≡ is_word_at word.now (field_at (fields_of row.now) place) }
 {

@@ -8,7 +8,7 @@ use std::marker::Brand;
 use std::sync::ledger::{Blank, Ledger};
 use std::test::Fail;
 
-// A text, and the numbers of its refusal and of the record at fault, each 0 where there is none.
+/// A text, and the numbers of its refusal and of the record at fault, each 0 where there is none.
 const TEXTS: [(&str, u8, u32); 24] = [
     ("time_us,signal\n0,7\n1000000,7\n", 0, 0),
     ("\u{feff}\"time_us\" , signal\r\n\r\n0,1\r\n5,-0", 0, 0),
@@ -40,7 +40,7 @@ const TEXTS: [(&str, u8, u32); 24] = [
     ("time_us,signal\n0,1\n7200000001,1\n14400000002,1,1\n", 1, 4),
 ];
 
-// The numbers of a refusal and of the record at fault, each 0 where there is none; 9 for want of memory.
+/// The numbers of a refusal and of the record at fault, each 0 where there is none; 9 for want of memory.
 fn told(answer: Result<Trace, TraceError>) -> (u8, u32) {
     match answer {
         Ok(_) => (0, 0),
@@ -56,7 +56,7 @@ fn texts_are_read_or_refused_by_the_first_record_at_fault(rt: HostRuntime) {
     }
 }
 
-// The sample of index 1, and the sum of those of index 1 and 2.
+/// The sample of index 1, and the sum of those of index 1 and 2.
 fn middle<L: Ledger>(blank: Blank, trace: &Trace) -> (i32, i64)
     requires name { blank.name ≡ L.name }
     requires parts { blank.parts ≡ L.parts }
@@ -106,7 +106,34 @@ fn a_trace_is_written_copied_and_recorded(rt: HostRuntime) -> Result<(), Fail> {
     Ok(())
 }
 
-// A text of so many samples of 0, one in each microsecond, and a last record behind them.
+/// Samples, and their bytes in a record of differences.
+const DIFFERENCES: [(&[i32], &[u8]); 4] = [
+    (&[7, 7], b"\0\0\0\x02\0\0\0\x07\0"),
+    (&[0, 100], b"\0\0\0\x02\0\0\0\0\xc8\x01"),
+    (
+        &[1, 20, -300, 4],
+        b"\0\0\0\x04\0\0\0\x01\x26\xff\x04\xe0\x04",
+    ),
+    (
+        &[-100_000_000, 100_000_000, -100_000_000],
+        b"\0\0\0\x03\xfa\x0a\x1f\0\x80\x88\xde\xbe\x01\xff\x87\xde\xbe\x01",
+    ),
+];
+
+#[test]
+fn a_trace_is_recorded_by_differences(rt: HostRuntime) -> Result<(), Fail> {
+    for (samples, want) in DIFFERENCES {
+        let trace = Trace::from_samples(rt.alloc(), 7, samples)?;
+        assert_eq!(rt;
+            trace.record_differences()?.as_slice(),
+            want,
+            "for {samples:?}"
+        );
+    }
+    Ok(())
+}
+
+/// A text of so many samples of 0, one in each microsecond, and a last record behind them.
 fn text_of_zeros(alloc: Global, samples: u32, last: &str) -> Result<String, Fail> {
     let mut text = String::from_str(alloc, "time_us,signal\n")?;
     for time in 0..samples {

@@ -66,7 +66,7 @@ impl Trace {
         Ok(Trace::of_samples(alloc, period, Vec::from_slice(alloc, samples)?)?)
     }
 
-    // The trace of samples that keep its limits.
+    /// The trace of samples that keep its limits.
     pub(crate) fn of_samples(
         alloc: Global,
         period: u64,
@@ -111,12 +111,12 @@ impl Trace {
         })
     }
 
-    // Where its memory comes from.
+    /// Where its memory comes from.
     pub(crate) fn allocator(&self) -> Global {
         *self.samples.allocator()
     }
 
-    // The samples in the order of their times.
+    /// The samples in the order of their times.
     pub(crate) fn samples(&self) -> &[i32]
         ensures { result.now ≡ self.now.samples }
     {
@@ -149,7 +149,7 @@ impl Trace {
     }
 }
 
-// The time of the last of so many samples.
+/// The time of the last of so many samples.
 fn last_time(count: usize, period: u64) -> u128
     requires { 1 ≤ count }
     ensures { result ≡ (count - 1) * period }
@@ -157,7 +157,7 @@ fn last_time(count: usize, period: u64) -> u128
     (count as u128 - 1) * u128::from(period)
 }
 
-// The index of the first sample that is out of range.
+/// The index of the first sample that is out of range.
 fn first_outside(samples: &[i32]) -> Option<usize>
     ensures value { result ≡ position (λ sample. not (is_sample sample)) samples.now }
     ensures place { IfSome result (λ i. i < length samples.now) }
@@ -167,6 +167,7 @@ fn first_outside(samples: &[i32]) -> Option<usize>
         .position(|sample| !is_sample(i64::from(*sample)))
 }
 
+/// Whether a number may be a sample.
 pub(crate) fn is_sample(sample: i64) -> bool
     ensures { result ≡ is_sample sample }
 {
@@ -174,7 +175,7 @@ pub(crate) fn is_sample(sample: i64) -> bool
     -greatest <= sample && sample <= greatest
 }
 
-// For each k up to the number of samples, the sum of the first k.
+/// For each k up to the number of samples, the sum of the first k.
 fn running_sums(alloc: Global, samples: &[i32]) -> Result<Vec<i64>, AllocError>
     requires few { length samples.now ≤ MOST_SAMPLES }
     requires range { All IsSample samples.now }

@@ -27,18 +27,23 @@ impl Trace {
         let room = HEADER.len() + MOST_BYTES_OF_LINE * samples.len();
         let mut text = Vec::with_capacity(self.allocator(), room)?;
         text.extend_from_slice(HEADER)?;
+        let mut buffer = Buffer::new();
         for (i, sample) in samples.iter().enumerate() {
-            push_line(&mut text, i as u64 * period, *sample)?;
+            push_line(&mut text, &mut buffer, i as u64 * period, *sample)?;
         }
         Ok(Bytes::from_vec(text))
     }
 }
 
-// Appends the line of a sample.
-fn push_line(text: &mut Vec<u8>, time: u64, sample: i32) -> Result<(), AllocError>
+/// Appends the line of a sample.
+fn push_line(
+    text: &mut Vec<u8>,
+    buffer: &mut Buffer,
+    time: u64,
+    sample: i32,
+) -> Result<(), AllocError>
     ensures { OnOk result (text.new.items ≡ text.old.items ++ line_of time sample) }
 {
-    let mut buffer = Buffer::new();
     text.extend_from_slice(buffer.format(time).as_bytes())?;
     text.push(b',')?;
     text.extend_from_slice(buffer.format(sample).as_bytes())?;
