@@ -204,7 +204,7 @@ const ROWS: [Row; 17] = [
 fn found_by<L: Ledger>(
     alloc: Global,
     blank: Blank,
-    method: &str,
+    method: &Method,
     samples: &[i32],
     manual: &[Event],
 ) -> Result<Raw, Fail>
@@ -214,14 +214,14 @@ fn found_by<L: Ledger>(
 {
     let mut steps: Steps<L> = Steps::new(blank);
     let trace = Trace::from_samples(alloc, 1_000_000, samples)?;
-    let mut text = String::from_str(alloc, COMMON)?;
-    text.push_str(method)?;
-    let method = Method::read_toml(alloc, text.as_bytes())?;
-    Ok(raw_peaks(alloc, &trace, &method, manual, &mut steps)?)
+    Ok(raw_peaks(alloc, &trace, method, manual, &mut steps)?)
 }
 
 fn found(alloc: Global, method: &str, samples: &[i32], manual: &[Event]) -> Result<Raw, Fail> {
-    found_by::<Brand>(alloc, Blank::new(1), method, samples, manual)
+    let mut text = String::from_str(alloc, COMMON)?;
+    text.push_str(method)?;
+    let method = Method::read_toml(alloc, text.as_bytes())?;
+    found_by::<Brand>(alloc, Blank::new(1), &method, samples, manual)
 }
 
 #[test]
