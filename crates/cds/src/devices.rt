@@ -67,7 +67,7 @@ fn read_some<R: Read>(reader: &mut R, buf: &mut [u8]) -> Result<usize, Failed>
 /// A sink over a writer of the system. It tells nothing of its content.
 #[derive(Drop)]
 pub struct WriterSink<W> {
-    writer: W,
+    pub(crate) writer: W,
     faults: u64,
 }
 

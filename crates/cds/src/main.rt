@@ -1,6 +1,8 @@
 //! The program `cds`: the top call over the real devices.
 #![tactic(auto)]
 
+#[cfg(test)]
+mod device_tests;
 mod devices;
 
 ghost use Rattle.std.specs.Prelude.{◌≡◌, ◌<◌};
@@ -9,6 +11,7 @@ use cds_base::{Clock, Door, FixedClock, MemDoor, Sink, Source, Steps};
 use cds_keep::{Keeper, MapKeeper};
 use devices::{ReaderSource, WriterSink};
 use std::alloc::Global;
+use std::collections::VecDeque;
 use std::marker::Brand;
 use std::process::ExitCode;
 use std::sync::ledger::{Blank, Ledger};
@@ -34,7 +37,7 @@ fn over_devices(rt: &HostRuntime, words: &[String]) -> u8 {
     let (Ok(mut keeper), Ok(mut clock), Ok(mut door)) = (
         MapKeeper::new(alloc, &[]),
         FixedClock::new(alloc, &[], 0),
-        MemDoor::new(alloc, &[]),
+        MemDoor::new(alloc, VecDeque::new(alloc), &[]),
     ) else {
         return cds_desk::NO_MEMORY;
     };

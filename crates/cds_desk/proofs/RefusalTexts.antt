@@ -7,6 +7,7 @@ use Rattle.cds_wire.specs.declared.answer.Answer.TheVariants.{Refusal}
 use Rattle.cds_wire.specs.declared.answer.Shown.TheVariants.{Number}
 use Rattle.cds_wire.proofs.Written.{refusal_text as written_refusal}
 use Rattle.cds_desk.specs.Response.{phrase, status_line, field_line, body_fields, close_field, head_text, response_text, refusal_body, refusal_text}
+use Rattle.cds_http.specs.declared.limits.TheConstants.{MOST_BODY_BYTES, MOST_HEAD_BYTES, MOST_FIELDS}
 use Rattle.cds_http.specs.declared.next.Fault.TheVariants.{Head, Truncated, LengthRequired, BodyTooLarge, HeadTooLarge, TooManyFields}
 use Rattle.cds_desk.specs.Service.{fault_text, memory_text, keeper_text}
 use Rattle.cds_desk.specs.Step.{refusal_reply}
@@ -83,14 +84,14 @@ truncated_is place = refusal_is 400 (codes "truncated") place true false refl
 pub length_is : (place : ℕ) → refusal_text 411 (codes "length") place true false ≡ fault_text (LengthRequired place)
 length_is place = refusal_is 411 (codes "length") place true false refl
 
-pub body_too_large_is : (value : ℕ) → value ≡ 4194304 → refusal_text 413 (codes "body") value true false ≡ fault_text BodyTooLarge
-body_too_large_is value is = rw is (refusal_is 413 (codes "body") 4194304 true false refl)
+pub body_too_large_is : (value : ℕ) → value ≡ MOST_BODY_BYTES → refusal_text 413 (codes "body") value true false ≡ fault_text BodyTooLarge
+body_too_large_is value is = rw is (refusal_is 413 (codes "body") MOST_BODY_BYTES true false refl)
 
-pub head_too_large_is : (value : ℕ) → value ≡ 16384 → refusal_text 431 (codes "size") value true false ≡ fault_text HeadTooLarge
-head_too_large_is value is = rw is (refusal_is 431 (codes "size") 16384 true false refl)
+pub head_too_large_is : (value : ℕ) → value ≡ MOST_HEAD_BYTES → refusal_text 431 (codes "size") value true false ≡ fault_text HeadTooLarge
+head_too_large_is value is = rw is (refusal_is 431 (codes "size") MOST_HEAD_BYTES true false refl)
 
-pub fields_is : (value : ℕ) → value ≡ 64 → refusal_text 431 (codes "fields") value true false ≡ fault_text TooManyFields
-fields_is value is = rw is (refusal_is 431 (codes "fields") 64 true false refl)
+pub fields_is : (value : ℕ) → value ≡ MOST_FIELDS → refusal_text 431 (codes "fields") value true false ≡ fault_text TooManyFields
+fields_is value is = rw is (refusal_is 431 (codes "fields") MOST_FIELDS true false refl)
 
 pub memory_is : (close without_body : Bool) → refusal_text 507 (codes "memory") 0 close without_body ≡ memory_text close without_body
 memory_is close without_body = refusal_is 507 (codes "memory") 0 close without_body refl

@@ -19,9 +19,13 @@ use Rattle.cds_book.specs.declared.command.Plan.TheVariants as plan
 use Rattle.cds_book.specs.declared.error.PlanError.{PlanError}
 use Rattle.cds_book.specs.declared.error.PlanError.TheVariants as refused
 use Rattle.cds_http.specs.Items.{Message}
-use Rattle.cds_wire.specs.Section.{Section, required, only as only_fields, unless, ◌>>=◌}
-use Rattle.cds_wire.specs.Stated.{body as stated_in, document, whole, freeze_of}
-use Rattle.cds_wire.specs.Values.{number_in}
+use Rattle.cds_base.specs.Answers.{unless, ◌>>=◌}
+use Rattle.cds_fields.specs.Datum.{Datum, object_in}
+use Rattle.cds_fields.specs.Json.{json_value}
+use Rattle.cds_fields.specs.Section.{Section, field_at, required, only as only_fields}
+use Rattle.cds_fields.specs.Values.{number_in}
+use Rattle.cds_wire.specs.Refusal.{body_refusals}
+use Rattle.cds_wire.specs.Stated.{body as stated_in, whole, freeze_of}
 use Rattle.cds_wire.specs.declared.error.BodyError.{BodyError}
 use Rattle.cds_wire.specs.declared.error.BodyError.TheVariants as body_error
 use Rattle.cds_wire.specs.declared.limits.TheConstants.{MOST_FREEZE_VERSION}
@@ -82,29 +86,39 @@ bind-memory (Err error) f first later = λ e. first (cc)
 ok-memory : {A : Type 0} (x : A) → Ok x ≢ Err body_error.NoMemory
 ok-memory x = λ e. cc
 
-required-memory : (s : Section) → required (number_in 1 MOST_FREEZE_VERSION) (codes "version") s ≢ Err body_error.NoMemory
+-- an object of a body
+abbrev body_section : List (List ℕ × Datum) → Section BodyError
+body_section fields = record { front = []; fields = fields; told = body_refusals }
+
+required-memory : (fields : List (List ℕ × Datum)) → required (number_in 1 MOST_FREEZE_VERSION) (codes "version") (body_section fields) ≢ Err body_error.NoMemory
 unfolding required
-required-memory s = ok_or-memory _ (body_error.Field (s.front ++ codes "version")) (λ e. cc)
+required-memory fields =
+    let refused = body_error.Field (codes "version") in
+    let found : Option Datum = field_at (codes "version") fields in
+    bind-memory (ok_or found refused) (λ d. ok_or (number_in 1 MOST_FREEZE_VERSION d) refused) (ok_or-memory found refused (λ e. cc))
+    (λ d. ok_or-memory (number_in 1 MOST_FREEZE_VERSION d) refused (λ e. cc))
 
 unless-memory : (front : List ℕ) (name : Option (List ℕ)) → unless (option_map (λ n. body_error.Field (front ++ n)) name) ≢ Err body_error.NoMemory
 unless-memory front None = λ e. cc
 unless-memory front (Some name) = λ e. cc
 
-only_fields-memory : (known : List (List ℕ)) (s : Section) → only_fields known s ≢ Err body_error.NoMemory
+only_fields-memory : (known : List (List ℕ)) (fields : List (List ℕ × Datum)) → only_fields known (body_section fields) ≢ Err body_error.NoMemory
 unfolding only_fields
-only_fields-memory known s = unless-memory s.front _
+only_fields-memory known fields = unless-memory [] _
 
-freeze_of-memory : (s : Section) → freeze_of s ≢ Err body_error.NoMemory
+freeze_of-memory : (fields : List (List ℕ × Datum)) → freeze_of (body_section fields) ≢ Err body_error.NoMemory
 unfolding freeze_of
-freeze_of-memory s =
-    bind-memory (required (number_in 1 MOST_FREEZE_VERSION) (codes "version") s) _ (required-memory s)
-    (λ version. bind-memory (only_fields (codes "version" ∷ []) s) _ (only_fields-memory (codes "version" ∷ []) s) (λ u. ok-memory version))
+freeze_of-memory fields =
+    bind-memory (required (number_in 1 MOST_FREEZE_VERSION) (codes "version") (body_section fields)) _ (required-memory fields)
+    (λ version. bind-memory (only_fields (codes "version" ∷ []) (body_section fields)) _ (only_fields-memory (codes "version" ∷ []) fields) (λ u. ok-memory version))
+
+object-memory : (fields : Option (List (List ℕ × Datum))) → ((ok_or fields (body_error.Field []) >>= λ f. Ok (body_section f)) >>= freeze_of) ≢ Err body_error.NoMemory
+object-memory None = λ e. cc
+object-memory (Some fields) = freeze_of-memory fields
 
 stated_in-memory : (bytes : List ℕ) → stated_in freeze_of bytes ≢ Err body_error.NoMemory
 unfolding stated_in whole
-stated_in-memory bytes =
-    bind-memory _ _ (ok_or-memory (document bytes) body_error.Json (λ e. cc))
-    (λ d. bind-memory _ _ (bind-memory _ _ (ok_or-memory _ (body_error.Field []) (λ e. cc)) (λ m. ok-memory _)) freeze_of-memory)
+stated_in-memory bytes = bind-memory _ _ (ok_or-memory (json_value bytes) body_error.Json (λ e. cc)) (λ d. object-memory (object_in d))
 
 -- ---- what is judged
 

@@ -2,7 +2,6 @@
 use Rattle.std.proofs.Common.{◌≡◌, ℕ, List, Option, Result, Ok, Err, refl, sym, ap, ◌∙◌, arith}
 use Rattle.std.specs.Prelude.{OnOk, OnErr, bytes_eq, codes}
 use Rattle.cds_base.specs.Told.{then_more}
-use Rattle.cds_book.specs.Plan.{Accepts}
 use Rattle.cds_book.specs.Tables.{TablesState}
 use Rattle.cds_book.specs.declared.command.Change.{Change}
 use Rattle.cds_codec.specs.Record.{HasRecord}
@@ -12,7 +11,7 @@ use Rattle.cds_desk.specs.Response.{response_text}
 use Rattle.cds_desk.specs.Sending.{HoldsPart}
 use Rattle.cds_desk.specs.Service.{Outcome, ServesItem, turn, served, no_memory, keeper_failed}
 use Rattle.cds_desk.specs.Serving.{World, world, Changed, ItemServed, ItemBroken}
-use Rattle.cds_desk.specs.Step.{judged}
+use Rattle.cds_desk.specs.Step.{IsPlanned, judged}
 use Rattle.cds_desk.specs.Turn.{Asks, Comes, judged_of, answered_text}
 use Rattle.cds_desk.specs.declared.turn.Answered.{Answered}
 use Rattle.cds_desk.specs.declared.turn.Answered.TheVariants.{Response, NoMemory, KeeperFailed}
@@ -85,6 +84,6 @@ module _ {A E : Type 0} (r : Result A E) (w v : Option (List ℕ)) (c d : Option
         written = rw (asks.close, asks.without_body, it_came.text_is) at h;
       }
 
--- a change that tables accept has a record
-pub accepted_has_record : (tables : TablesState) (change : Change) → Accepts tables change → HasRecord change
-accepted_has_record tables change accepts = HasRecord-accepted tables change accepts
+-- a change that is planned has a record
+pub planned_has_record : (tables : TablesState) (change : Change) → IsPlanned tables change → HasRecord change
+planned_has_record tables change planned = HasRecord-accepted tables change planned.content planned.accepts

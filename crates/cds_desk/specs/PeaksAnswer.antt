@@ -7,6 +7,7 @@ use Rattle.cds_trace.specs.declared.error.TraceError.{TraceError}
 use Rattle.cds_detect.specs.Classes.{Settings}
 use Rattle.cds_detect.specs.Raw.{raw_peaks_of, answer_of}
 use Rattle.cds_report.specs.PeaksText.{peaks_text}
+use Rattle.cds_desk.specs.declared.receiving.TheConstants.{MOST_SOURCE_BYTES}
 use Rattle.cds_desk.specs.declared.answer.Answer.{Answer}
 use Rattle.cds_desk.specs.declared.words.PeaksOptions.{PeaksOptions}
 
@@ -33,7 +34,7 @@ abbrev pub answer_to_trace : PeaksOptions → Result Signal TraceError → Answe
 answer_to_trace options (Ok signal) = record { status = 0; text = peaks_text (answer_of (raw_peaks_of signal (settings_of_options options))) }
 answer_to_trace options (Err error) = refusal (unwrap_or (number_of_refusal error) 0) (record_of_refusal error)
 
--- the answer to these bytes: more than 4,194,304 are refused with number 9, whatever they are
+-- the answer to these bytes: more than a command reads are refused with number 9, whatever they are
 abbrev pub peaks_answer : PeaksOptions → List ℕ → Answer
 peaks_answer options bytes =
-    if nat_lt 4194304 (length bytes) then refusal 9 None else answer_to_trace options (csv_trace bytes)
+    if nat_lt MOST_SOURCE_BYTES (length bytes) then refusal 9 None else answer_to_trace options (csv_trace bytes)

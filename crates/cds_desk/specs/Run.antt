@@ -23,7 +23,7 @@ OfAnswer words bytes P = IfSome (options_of words) (λ options. OfBytes options 
 
 -- what is written where the words are no command
 abbrev pub usage_line : List ℕ
-usage_line = codes "usage: cds peaks|session|serve|demo\n"
+usage_line = codes "usage: cds peaks|session|serve|demo|migrate\n"
 
 -- 0 done, 1 refused, 2 no command, 3 the source failed, 4 the sink failed, 5 the keeper failed, 6 no memory, 8 damaged
 abbrev pub IsStatus : ℕ → Type 0

@@ -3,6 +3,7 @@
 use Rattle.std.specs.Prelude.{◌≡◌, ℕ, ◌+◌, Bool, true, false, List, [], ◌∷◌, ◌++◌, codes, bytes_eq, is_some, IsTrue, ⊤}
 use Rattle.cds_book.specs.Tables.{TablesState}
 use Rattle.cds_http.specs.Items.{Message, Item, continue, request, fault}
+use Rattle.cds_http.specs.declared.limits.TheConstants.{MOST_BODY_BYTES, MOST_HEAD_BYTES, MOST_FIELDS}
 use Rattle.cds_http.specs.declared.next.Fault.{Fault}
 use Rattle.cds_http.specs.declared.next.Fault.TheVariants as because
 use Rattle.cds_wire.specs.declared.answer.Shown.TheVariants.{Number}
@@ -17,9 +18,9 @@ abbrev pub fault_reply : Fault → Reply
 fault_reply (because.Head place) = refusal_reply 400 (codes "head") 0 (Number place)
 fault_reply (because.Truncated place) = refusal_reply 400 (codes "truncated") 0 (Number place)
 fault_reply (because.LengthRequired place) = refusal_reply 411 (codes "length") 0 (Number place)
-fault_reply because.BodyTooLarge = refusal_reply 413 (codes "body") 0 (Number 4194304)
-fault_reply because.HeadTooLarge = refusal_reply 431 (codes "size") 0 (Number 16384)
-fault_reply because.TooManyFields = refusal_reply 431 (codes "fields") 0 (Number 64)
+fault_reply because.BodyTooLarge = refusal_reply 413 (codes "body") 0 (Number MOST_BODY_BYTES)
+fault_reply because.HeadTooLarge = refusal_reply 431 (codes "size") 0 (Number MOST_HEAD_BYTES)
+fault_reply because.TooManyFields = refusal_reply 431 (codes "fields") 0 (Number MOST_FIELDS)
 
 -- the response to a fault, after which the connection closes; its body is never left out
 abbrev pub fault_text : Fault → List ℕ

@@ -10,7 +10,7 @@ use Rattle.cds_rules.specs.Refusal.{number_of_refusal as number_of_method_refusa
 use Rattle.cds_rules.specs.Stated.{stated}
 use Rattle.cds_rules.specs.declared.error.MethodError.{MethodError}
 use Rattle.cds_book.specs.Tables.{TablesState, trace_of, trace_versions_of, draft_of, method_of, method_versions_of}
-use Rattle.cds_book.specs.Plan.{planned, applied}
+use Rattle.cds_book.specs.Plan.{planned, applied, Accepts, HasContent}
 use Rattle.cds_book.specs.declared.command.Command.{Command}
 use Rattle.cds_book.specs.declared.command.Command.TheVariants as command
 use Rattle.cds_book.specs.declared.command.Change.{Change}
@@ -92,6 +92,11 @@ plan_reply (refused.NoMethod name) = absent_reply 2 (Word name)
 plan_reply (refused.Number next) = refusal_reply 409 (codes "conflict") 9 (Number next)
 plan_reply (refused.Full limit) = refusal_reply 422 (codes "full") 10 (Number limit)
 plan_reply refused.NoMemory = memory_reply
+
+-- a change that is planned on these tables, whose name is a name and whose trace is a trace
+pub record IsPlanned (tables : TablesState) (change : Change) : Type 0 where
+  pub accepts : Accepts tables change
+  pub content : HasContent change
 
 -- ---- what is judged of a request: its reply, and the change that it makes if it makes one
 

@@ -4,7 +4,8 @@ use Rattle.std.specs.Char.{is_ascii_digit}
 use Rattle.std.specs.List.{list_all}
 use Rattle.std.specs.Str.{bytes_eq}
 use Rattle.std.specs.Str.Parse.{digits_value}
-use Rattle.cds_rules.specs.declared.limits.TheConstants.{MOST_BUNCH, MOST_SLOPE, MOST_PLATEAU}
+use Rattle.cds_fields.specs.declared.limits.TheConstants.{MOST_SLOPE}
+use Rattle.cds_rules.specs.declared.limits.TheConstants.{MOST_BUNCH, MOST_PLATEAU}
 use Rattle.cds_rules.specs.Ranges.{SlopeRanges}
 use Rattle.cds_desk.specs.declared.words.CommandLine.{CommandLine}
 use Rattle.cds_desk.specs.declared.words.CommandLine.TheVariants.{Peaks, Session}

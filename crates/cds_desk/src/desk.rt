@@ -1,6 +1,7 @@
 ghost use Rattle.cds_desk.specs.declared.desk.OpenError.TheVariants.{NoMemory};
 ghost use Rattle.std.specs.Prelude.{◌≡◌, Err};
-ghost use Rattle.cds_desk.specs.Opening.{opened, OpensAs};
+ghost use Rattle.cds_desk.specs.Opening.{opened};
+ghost use Rattle.cds_base.specs.Answers.{Gives};
 
 use crate::routes::{Route, route_table};
 use cds_base::Steps;
@@ -56,7 +57,7 @@ impl Desk {
         records: &Records,
         steps: &mut Steps<L>,
     ) -> Result<Desk, OpenError>
-        ensures opens { OpensAs (opened records.now) result }
+        ensures opens { Gives OpenError.NoMemory (λ tables. tables) (opened records.now) result }
         ensures steps { steps.new ≡ steps.old }
     {
         if 0 < records.len() {

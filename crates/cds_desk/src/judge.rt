@@ -1,8 +1,8 @@
 //! What is judged of a request: its route first, then its method, and then all that its body and the tables say.
 
 ghost use Rattle.std.specs.Prelude.{◌≡◌, IfOk, IfSome};
-ghost use Rattle.cds_book.specs.Plan.{planned, Accepts, IsCommand};
-ghost use Rattle.cds_desk.specs.Step.{answered, other_method, only, decided, judged_target, judged_method, judged_route};
+ghost use Rattle.cds_book.specs.Plan.{planned, IsCommand};
+ghost use Rattle.cds_desk.specs.Step.{IsPlanned, answered, other_method, only, decided, judged_target, judged_method, judged_route};
 
 use crate::methods::{freeze_draft, method_text, put_draft};
 use crate::refusals::{other_method, plan_reply};
@@ -42,7 +42,7 @@ pub(crate) fn judge(
     body: &[u8],
 ) -> Result<Judged, NoMemory>
     ensures value { IfOk result (λ j. j ≡ judged_route tables.now.state target method.now body.now) }
-    ensures accepted { IfOk result (λ j. IfSome j.change (Accepts tables.now.state)) }
+    ensures accepted { IfOk result (λ j. IfSome j.change (IsPlanned tables.now.state)) }
 {
     match target {
         Some(target) => judge_method(alloc, tables, target, method, body),
@@ -59,7 +59,7 @@ fn judge_method(
     body: &[u8],
 ) -> Result<Judged, NoMemory>
     ensures value { IfOk result (λ j. j ≡ judged_method tables.now.state target method.now body.now) }
-    ensures accepted { IfOk result (λ j. IfSome j.change (Accepts tables.now.state)) }
+    ensures accepted { IfOk result (λ j. IfSome j.change (IsPlanned tables.now.state)) }
 {
     let wanted = target.route().method();
     if method != wanted.as_str().as_bytes() {
@@ -76,7 +76,7 @@ fn judge_target(
     body: &[u8],
 ) -> Result<Judged, NoMemory>
     ensures value { IfOk result (λ j. j ≡ judged_target tables.now.state target body.now) }
-    ensures accepted { IfOk result (λ j. IfSome j.change (Accepts tables.now.state)) }
+    ensures accepted { IfOk result (λ j. IfSome j.change (IsPlanned tables.now.state)) }
 {
     match target {
         Target::Trace(name) => put_trace(alloc, tables, name, body),
@@ -101,7 +101,7 @@ pub(crate) fn decide(
 ) -> Result<Judged, NoMemory>
     requires { IsCommand command.now }
     ensures value { IfOk result (λ j. j ≡ decided (planned tables.now.state command.now) (answered 200 same.now) (answered status made.now)) }
-    ensures accepted { IfOk result (λ j. IfSome j.change (Accepts tables.now.state)) }
+    ensures accepted { IfOk result (λ j. IfSome j.change (IsPlanned tables.now.state)) }
 {
     match tables.plan(command) {
         Ok(Plan::Unchanged) => Ok(only(answered(alloc, StatusCode::OK, same)?)),

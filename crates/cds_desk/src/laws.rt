@@ -2,11 +2,7 @@
 
 ghost use Rattle.std.specs.Prelude.{◌≡◌, ◌≢◌, ◌≤◌, ℕ, List, None, IsTrue, is_some};
 ghost use Rattle.cds_book.specs.Tables.{TablesState};
-ghost use Rattle.cds_detect.specs.declared.raw.TheConstants.{MOST_RAW_PEAKS};
 ghost use Rattle.cds_http.specs.Items.{Message, Item};
-ghost use Rattle.cds_http.specs.declared.limits.TheConstants.{MOST_HEAD_BYTES, MOST_FIELDS, MOST_BODY_BYTES, MOST_LENGTH_DIGITS};
-ghost use Rattle.cds_rules.specs.declared.limits.TheConstants.{MOST_BUNCH, MOST_SLOPE, MOST_PLATEAU, MOST_FUSE, MOST_AREA, MOST_HEIGHT, MOST_DEAD_TIME_US, LAST_TIME_MS, RULES, MOST_COMPONENTS, MOST_EVENTS, MOST_CHECKS, MOST_LIMIT, MOST_R2_LIMIT, MOST_METHOD_BYTES};
-ghost use Rattle.cds_wire.specs.declared.limits.TheConstants.{MOST_FREEZE_VERSION};
 ghost use Rattle.cds_desk.specs.Serving.{World, AreServed, InAll};
 ghost use Rattle.cds_desk.specs.declared.receiving.TheConstants.{MOST_SOURCE_BYTES};
 ghost use Rattle.cds_desk.specs.Repeat.{IsUnchanged};
@@ -37,17 +33,7 @@ pub fn served_items_have_one_outcome()
     ensures { (items : List Item) (before now : World) → AreServed before items now → InAll before now items }
 {}
 
-/// The limits that the definitions of methods cite. Times of events are in milliseconds.
-pub fn limits_of_methods()
-    ensures numbers { (MOST_BUNCH ≡ 64) × (MOST_SLOPE ≡ 1000000000) × (MOST_PLATEAU ≡ 1000) × (MOST_FUSE ≡ 1000) × (MOST_AREA ≡ 4000000000000000) × (MOST_HEIGHT ≡ 200000000) }
-    ensures times { (MOST_DEAD_TIME_US ≡ 14400000000) × (LAST_TIME_MS ≡ 14400000) }
-    ensures lists { (MOST_COMPONENTS ≡ 32) × (MOST_EVENTS ≡ 64) × (MOST_CHECKS ≡ 64) }
-    ensures checks { (MOST_LIMIT ≡ 1000000) × (MOST_R2_LIMIT ≡ 10000) }
-    ensures texts { (MOST_METHOD_BYTES ≡ 65536) × (RULES ≡ 1) × (MOST_FREEZE_VERSION ≡ 1001) }
-{}
-
-/// The limits that the definitions of messages, of a source and of raw peaks cite.
-pub fn limits_of_messages_and_traces()
-    ensures messages { (MOST_HEAD_BYTES ≡ 16384) × (MOST_FIELDS ≡ 64) × (MOST_BODY_BYTES ≡ 4194304) × (MOST_LENGTH_DIGITS ≡ 19) }
-    ensures traces { (MOST_SOURCE_BYTES ≡ 4194304) × (MOST_RAW_PEAKS ≡ 500) }
+/// The most bytes that a command reads from its source, as many as a body may have.
+pub fn the_limits()
+    ensures { MOST_SOURCE_BYTES ≡ 16777216 }
 {}

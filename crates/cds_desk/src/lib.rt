@@ -7,6 +7,7 @@ mod desk;
 mod judge;
 mod laws;
 mod methods;
+mod piece;
 mod receiving;
 mod refusals;
 mod reply;
@@ -25,9 +26,8 @@ mod words;
 pub use answer::{DONE, REFUSED, TOO_MANY_BYTES};
 pub use desk::{Desk, OpenError};
 pub use laws::{
-    a_step_answers_neither_503_nor_507, limits_of_messages_and_traces, limits_of_methods,
-    refused_request_changes_nothing, repeated_request_changes_nothing,
-    served_items_have_one_outcome,
+    a_step_answers_neither_503_nor_507, refused_request_changes_nothing,
+    repeated_request_changes_nothing, served_items_have_one_outcome, the_limits,
 };
 pub use receiving::MOST_SOURCE_BYTES;
 pub use serving::Ended;

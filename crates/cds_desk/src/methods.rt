@@ -1,12 +1,10 @@
 //! What requests on methods come to.
-
 ghost use Rattle.std.specs.Prelude.{◌≡◌, IfOk, IfSome, Ok};
 ghost use Rattle.cds_book.specs.Kept.{IsMethod};
-ghost use Rattle.cds_book.specs.Plan.{Accepts};
 ghost use Rattle.cds_book.specs.Tables.{draft_of, method_of, method_versions_of};
 ghost use Rattle.cds_rules.specs.Stated.{stated};
 ghost use Rattle.cds_wire.specs.Stated.{body as stated_in, freeze_of};
-ghost use Rattle.cds_desk.specs.Step.{only, draft_status, draft_put, draft_decided, draft_frozen, version_shown};
+ghost use Rattle.cds_desk.specs.Step.{IsPlanned, only, draft_status, draft_put, draft_decided, draft_frozen, version_shown};
 ghost use Rattle.cds_desk.specs.declared.reply.Content.TheVariants as content;
 
 use crate::judge::{Judged, decide, only};
@@ -27,7 +25,7 @@ pub(crate) fn put_draft(
     text: &[u8],
 ) -> Result<Judged, NoMemory>
     ensures value { IfOk result (λ j. j ≡ draft_put tables.now.state name text.now (stated text.now)) }
-    ensures accepted { IfOk result (λ j. IfSome j.change (Accepts tables.now.state)) }
+    ensures accepted { IfOk result (λ j. IfSome j.change (IsPlanned tables.now.state)) }
 {
     match Method::read_toml(alloc, text) {
         Ok(_) => put_method(alloc, tables, name, text),
@@ -40,7 +38,7 @@ pub(crate) fn put_draft(
 fn put_method(alloc: Global, tables: &Tables, name: Name, text: &[u8]) -> Result<Judged, NoMemory>
     requires { IsMethod text.now }
     ensures value { IfOk result (λ j. j ≡ draft_decided tables.now.state name text.now) }
-    ensures accepted { IfOk result (λ j. IfSome j.change (Accepts tables.now.state)) }
+    ensures accepted { IfOk result (λ j. IfSome j.change (IsPlanned tables.now.state)) }
 {
     let status = draft_status(tables, name);
     let text = Bytes::from_vec(Vec::from_slice(alloc, text)?);
@@ -68,7 +66,7 @@ pub(crate) fn freeze_draft(
     body: &[u8],
 ) -> Result<Judged, NoMemory>
     ensures value { IfOk result (λ j. j ≡ draft_frozen tables.now.state name (stated_in freeze_of body.now)) }
-    ensures accepted { IfOk result (λ j. IfSome j.change (Accepts tables.now.state)) }
+    ensures accepted { IfOk result (λ j. IfSome j.change (IsPlanned tables.now.state)) }
 {
     match read_freeze(alloc, body) {
         Ok(version) => freeze_as(alloc, tables, name, version),
@@ -80,7 +78,7 @@ pub(crate) fn freeze_draft(
 /// Freezes the draft of a method as this version.
 fn freeze_as(alloc: Global, tables: &Tables, name: Name, version: u32) -> Result<Judged, NoMemory>
     ensures value { IfOk result (λ j. j ≡ draft_frozen tables.now.state name (Ok version)) }
-    ensures accepted { IfOk result (λ j. IfSome j.change (Accepts tables.now.state)) }
+    ensures accepted { IfOk result (λ j. IfSome j.change (IsPlanned tables.now.state)) }
 {
     let same = Answer::Freeze {
         unchanged: true,

@@ -4,14 +4,12 @@ ghost use Rattle.cds_desk.specs.Receiving.{AreReceived};
 ghost use Rattle.cds_desk.specs.declared.receiving.ReceiveError.TheVariants.{NoMemory};
 ghost use Rattle.cds_desk.specs.declared.receiving.TheConstants.{MOST_SOURCE_BYTES};
 
+use crate::piece::new_piece;
 use cds_base::{Failed, Source};
 use std::alloc::{AllocError, Global};
 
 /// The most bytes that a command reads from its source.
-pub const MOST_SOURCE_BYTES: usize = 4_194_304;
-
-/// How many bytes are asked for in one read.
-const PIECE_BYTES: usize = 65_536;
+pub const MOST_SOURCE_BYTES: usize = 16_777_216;
 
 /// Why a source was not read.
 #[derive(Clone, Copy, Debug, PartialEq, Eq)]
@@ -39,7 +37,7 @@ pub(crate) fn receive<S: Source>(alloc: Global, source: &mut S) -> Result<Vec<u8
     ensures kept_without_memory { IsErrOf result ReceiveError.NoMemory → S.faults source.new ≡ S.faults source.old }
     ensures failed { IsErrOf result ReceiveError.Failed → Rose (S.faults source.old) (S.faults source.new) }
 {
-    let mut piece = zeros(alloc, PIECE_BYTES)?;
+    let mut piece = new_piece(alloc)?;
     let mut bytes = Vec::new(alloc);
     while bytes.len() <= MOST_SOURCE_BYTES {
         match source.read(&mut piece) {
@@ -49,10 +47,4 @@ pub(crate) fn receive<S: Source>(alloc: Global, source: &mut S) -> Result<Vec<u8
         }
     }
     Ok(bytes)
-}
-
-fn zeros(alloc: Global, count: usize) -> Result<Vec<u8>, AllocError>
-    ensures { IfOk result (λ bytes. vec_len bytes ≡ count) }
-{
-    vec![in alloc; 0; count]
 }

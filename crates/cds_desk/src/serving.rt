@@ -13,6 +13,7 @@ ghost use Rattle.cds_desk.specs.Service.{fault_text};
 ghost use Rattle.cds_desk.specs.Turn.{Asks};
 
 use crate::desk::Desk;
+use crate::piece::new_piece;
 use crate::response::continue_text;
 use crate::sending::send;
 use crate::turn::{Asked, answer, write_answer};
@@ -23,9 +24,6 @@ use cds_keep::Keeper;
 use std::alloc::{AllocError, Global};
 use std::str;
 use std::sync::ledger::Ledger;
-
-/// How many bytes are asked for in one read.
-const PIECE_BYTES: usize = 65_536;
 
 /// How the serving of a connection ended.
 #[derive(Clone, Copy, Debug, PartialEq, Eq)]
@@ -75,7 +73,7 @@ impl Desk {
         let Ok(mut messages) = Messages::new(self.alloc) else {
             return Ended::NoMemory;
         };
-        let Ok(mut piece) = room(self.alloc, PIECE_BYTES) else {
+        let Ok(mut piece) = new_piece(self.alloc) else {
             return Ended::NoMemory;
         };
         loop {
@@ -213,13 +211,6 @@ fn read_on<S: Source>(
         messages.feed(&piece[..count]);
     }
     Ok(count)
-}
-
-/// Room for so many bytes.
-fn room(alloc: Global, count: usize) -> Result<Vec<u8>, AllocError>
-    ensures { IfOk result (λ bytes. vec_len bytes ≡ count) }
-{
-    vec![in alloc; 0; count]
 }
 
 /// Judges what is left at the end of the source, and tells a fault.

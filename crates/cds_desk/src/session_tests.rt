@@ -218,9 +218,9 @@ fn a_fault_of_the_stream_is_the_last_response(rt: HostRuntime) -> Result<(), Fai
             "{\"error\":\"length\",\"number\":0,\"value\":0}",
         ),
         (
-            b"PUT /traces/flat HTTP/1.1\r\nContent-Length: 4194305\r\n\r\n",
+            b"PUT /traces/flat HTTP/1.1\r\nContent-Length: 16777217\r\n\r\n",
             "413 Content Too Large",
-            "{\"error\":\"body\",\"number\":0,\"value\":4194304}",
+            "{\"error\":\"body\",\"number\":0,\"value\":16777216}",
         ),
         (
             b"no head\r\n\r\n",

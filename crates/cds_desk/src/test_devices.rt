@@ -6,6 +6,7 @@ use crate::run;
 use cds_base::{Clock, Door, FixedClock, MemDoor, MemSink, MemSource, Sink, Source, Steps};
 use cds_keep::{Keeper, MapKeeper};
 use std::alloc::Global;
+use std::collections::VecDeque;
 use std::marker::Brand;
 use std::sync::ledger::{Blank, Ledger};
 use std::test::Fail;
@@ -54,7 +55,7 @@ pub(crate) fn over(
     keeper: &mut MapKeeper,
 ) -> Result<u8, Fail> {
     let mut clock = FixedClock::new(alloc, &[], 0)?;
-    let mut door = MemDoor::new(alloc, &[])?;
+    let mut door = MemDoor::new(alloc, VecDeque::new(alloc), &[])?;
     Ok(counted::<MemSource, MemSink, MapKeeper, FixedClock, MemDoor, Brand>(
         Blank::new(1),
         alloc,

@@ -114,7 +114,7 @@ fn devices_that_fail_end_the_command(rt: HostRuntime) -> Result<(), Fail> {
     assert_eq!(rt; no_command.0, 2);
     assert_eq!(rt;
         no_command.1.as_slice(),
-        b"usage: cds peaks|session|serve|demo\n".as_slice()
+        b"usage: cds peaks|session|serve|demo|migrate\n".as_slice()
     );
     Ok(())
 }
@@ -124,12 +124,12 @@ fn spaces(alloc: Global, count: usize) -> Result<Vec<u8>, Fail> {
 }
 
 #[test]
-fn a_source_has_at_most_4_194_304_bytes(rt: HostRuntime) -> Result<(), Fail> {
+fn a_source_has_at_most_16_777_216_bytes(rt: HostRuntime) -> Result<(), Fail> {
     let words = words_of(rt.alloc(), PEAKS)?;
-    let most = spaces(rt.alloc(), 4_194_304)?;
+    let most = spaces(rt.alloc(), 16_777_216)?;
     let (_, text) = outcome(rt.alloc(), &words, &most, 65_536, &[], &[])?;
     assert_eq!(rt; text.as_slice(), b"refused 2\n".as_slice());
-    let more = spaces(rt.alloc(), 4_194_305)?;
+    let more = spaces(rt.alloc(), 16_777_217)?;
     let (status, text) = outcome(rt.alloc(), &words, &more, 65_536, &[], &[])?;
     assert_eq!(rt; status, 1);
     assert_eq!(rt; text.as_slice(), b"refused 9\n".as_slice());

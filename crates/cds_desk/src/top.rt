@@ -38,14 +38,14 @@ pub const NO_MEMORY: u8 = 6;
 pub const DAMAGED: u8 = 8;
 
 /// What is written where the words are no command.
-const USAGE: &[u8] = b"usage: cds peaks|session|serve|demo\n";
+const USAGE: &[u8] = b"usage: cds peaks|session|serve|demo|migrate\n";
 
 /// Carries out the command that the words state, and answers the status with which the program ends.
 ///
 /// `peaks --bunch B --on T --off T --plateau P` reads a trace from the source to its end and writes to the sink
 /// the table of its raw peaks, or `too many` and their number where there are more than 500 (status 0); or, where
 /// the trace is refused, `refused`, the number of the refusal and the record at fault if there is one (status 1).
-/// A source of more than 4,194,304 bytes is refused with number 9, whatever they are. Status 3 comes only where the
+/// A source of more than 16,777,216 bytes is refused with number 9, whatever they are. Status 3 comes only where the
 /// source failed, and nothing is then written; status 4 only where the sink failed while a table was written, of
 /// which a front then stands in it.
 ///

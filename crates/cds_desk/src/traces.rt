@@ -1,11 +1,9 @@
 //! What requests on traces come to.
-
 ghost use Rattle.std.specs.Prelude.{◌≡◌, IfOk, IfSome, Ok, option_map};
-ghost use Rattle.cds_book.specs.Plan.{Accepts};
 ghost use Rattle.cds_book.specs.Tables.{trace_of, trace_versions_of};
 ghost use Rattle.cds_trace.specs.TraceText.{csv_trace};
 ghost use Rattle.cds_trace.specs.WrittenText.{csv_text};
-ghost use Rattle.cds_desk.specs.Step.{only, trace_put, version_shown};
+ghost use Rattle.cds_desk.specs.Step.{IsPlanned, only, trace_put, version_shown};
 ghost use Rattle.cds_desk.specs.declared.reply.Content.TheVariants as content;
 
 use crate::judge::{Judged, decide, only};
@@ -26,7 +24,7 @@ pub(crate) fn put_trace(
     body: &[u8],
 ) -> Result<Judged, NoMemory>
     ensures value { IfOk result (λ j. j ≡ trace_put tables.now.state name (csv_trace body.now)) }
-    ensures accepted { IfOk result (λ j. IfSome j.change (Accepts tables.now.state)) }
+    ensures accepted { IfOk result (λ j. IfSome j.change (IsPlanned tables.now.state)) }
 {
     match Trace::read_csv(alloc, body) {
         Ok(trace) => put_read(alloc, tables, name, trace),
@@ -38,7 +36,7 @@ pub(crate) fn put_trace(
 /// Puts a trace as the next version of its name.
 fn put_read(alloc: Global, tables: &Tables, name: Name, trace: Trace) -> Result<Judged, NoMemory>
     ensures value { IfOk result (λ j. j ≡ trace_put tables.now.state name (Ok trace)) }
-    ensures accepted { IfOk result (λ j. IfSome j.change (Accepts tables.now.state)) }
+    ensures accepted { IfOk result (λ j. IfSome j.change (IsPlanned tables.now.state)) }
 {
     let samples = trace.len();
     let count = tables.trace_versions(name).unwrap_or(0);

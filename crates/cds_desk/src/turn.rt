@@ -1,12 +1,12 @@
 //! The turn of one request: its answer is prepared, its change is kept and carried out, and its response is written.
-
 ghost use Rattle.std.specs.Prelude.{◌≡◌, ◌≤◌, ◌^◌, ◌<◌, true, length, ℕ, List, Option, Some, None, IfOk, IfSome, OnOk, OnErr};
 ghost use Rattle.cds_base.specs.Faults.{Rose};
-ghost use Rattle.cds_book.specs.Plan.{room_of, Accepts};
+ghost use Rattle.cds_book.specs.Plan.{room_of};
 ghost use Rattle.cds_base.specs.Told.{then_more};
 ghost use Rattle.cds_desk.specs.Sending.{HoldsPart};
 ghost use Rattle.cds_desk.specs.Response.{response_text};
 ghost use Rattle.cds_desk.specs.Routes.{route_table};
+ghost use Rattle.cds_desk.specs.Step.{IsPlanned};
 ghost use Rattle.cds_desk.specs.Turn.{judged_of, KeepsChange, Comes, answered_text};
 
 use crate::judge::{Judged, judge};
@@ -57,7 +57,7 @@ pub(crate) enum Answered {
 }
 
 /// Prepares the answer to a request. Nothing is changed, but room is taken for the change.
-#[tactic(auto, using(crate::proofs::TurnLaws::accepted_has_record))]
+#[tactic(auto, using(crate::proofs::TurnLaws::planned_has_record))]
 fn prepare(
     alloc: Global,
     router: &Router<Route>,
@@ -69,7 +69,7 @@ fn prepare(
     ensures response { IfOk result (λ p. p.response ≡ response_text (judged_of tables.old.state asked.entry).reply asked.entry.close asked.entry.without_body) }
     ensures kept { IfOk result (λ p. KeepsChange (judged_of tables.old.state asked.entry).change p.kept) }
     ensures room { IfOk result (λ p. IfSome p.kept (λ k. tables.new.room ≡ Some (room_of k.change))) }
-    ensures accepted { IfOk result (λ p. IfSome p.kept (λ k. Accepts tables.old.state k.change)) }
+    ensures accepted { IfOk result (λ p. IfSome p.kept (λ k. IsPlanned tables.old.state k.change)) }
     ensures short { IfOk result (λ p. IfSome p.kept (λ k. length k.record < 2 ^ 32)) }
 {
     let target = read_target(router, asked.target);

@@ -1,0 +1,119 @@
+//! The devices of the system, over a reader and a writer whose calls go as a list says.
+use crate::devices::{ReaderSource, WriterSink};
+use cds_base::{Failed, Sink, Source};
+use std::io::{self, ErrorKind, Read, Write};
+use std::test::Fail;
+
+/// How a call of the system goes.
+#[derive(Clone, Copy, Debug, PartialEq, Eq)]
+enum Call {
+    Interrupted,
+    Fails,
+    Moves(usize),
+}
+
+/// A reader and writer whose calls go one after the other as the list says, and move nothing behind it.
+#[derive(Drop)]
+struct Scripted {
+    calls: Vec<Call>,
+    at: usize,
+    taken: Vec<u8>,
+}
+
+impl Scripted {
+    /// How many bytes the next call moves, at most as many as it may.
+    fn next(&mut self, most: usize) -> io::Result<usize> {
+        let call = self.calls.get(self.at).copied().unwrap_or(Call::Moves(0));
+        self.at = self.at.saturating_add(1);
+        match call {
+            Call::Interrupted => Err(ErrorKind::Interrupted.into()),
+            Call::Fails => Err(ErrorKind::Other.into()),
+            Call::Moves(count) => Ok(count.min(most)),
+        }
+    }
+}
+
+impl Read for Scripted {
+    fn read(&mut self, buf: &mut [u8]) -> io::Result<usize> {
+        let count = self.next(buf.len())?;
+        for byte in buf.iter_mut().take(count) {
+            *byte = b'r';
+        }
+        Ok(count)
+    }
+}
+
+impl Write for Scripted {
+    fn write(&mut self, piece: &[u8]) -> io::Result<usize> {
+        let count = self.next(piece.len())?;
+        for byte in piece.iter().take(count) {
+            if self.taken.push(*byte).is_err() {
+                return Err(ErrorKind::OutOfMemory.into());
+            }
+        }
+        Ok(count)
+    }
+
+    fn flush(&mut self) -> io::Result<()> {
+        Ok(())
+    }
+}
+
+#[test]
+fn a_read_that_fails_is_no_end_of_the_input(rt: HostRuntime) -> Result<(), Fail> {
+    let calls = [
+        Call::Moves(3),
+        Call::Interrupted,
+        Call::Moves(2),
+        Call::Fails,
+        Call::Moves(1),
+    ];
+    let reader = Scripted {
+        calls: Vec::from_slice(rt.alloc(), &calls)?,
+        at: 0,
+        taken: Vec::new(rt.alloc()),
+    };
+    let mut source = ReaderSource::new(reader);
+    let mut room = [b'-'; 4];
+    for (result, read) in [
+        (Ok(3), b"rrr-"),
+        (Ok(2), b"rr--"),
+        (Err(Failed), b"----"),
+        (Ok(1), b"r---"),
+        (Ok(0), b"----"),
+    ] {
+        room = [b'-'; 4];
+        assert_eq!(rt; source.read(&mut room), result);
+        assert_eq!(rt; room, *read);
+    }
+    Ok(())
+}
+
+#[test]
+fn bytes_count_as_written_where_the_writer_took_them(rt: HostRuntime) -> Result<(), Fail> {
+    let calls = [
+        Call::Moves(3),
+        Call::Interrupted,
+        Call::Moves(9),
+        Call::Fails,
+        Call::Moves(0),
+        Call::Moves(1),
+    ];
+    let writer = Scripted {
+        calls: Vec::from_slice(rt.alloc(), &calls)?,
+        at: 0,
+        taken: Vec::new(rt.alloc()),
+    };
+    let mut sink = WriterSink::new(writer);
+    for (result, taken) in [
+        (Ok(3), b"abc".as_slice()),
+        (Ok(4), b"abcabcd".as_slice()),
+        (Err(Failed), b"abcabcd".as_slice()),
+        (Err(Failed), b"abcabcd".as_slice()),
+        (Ok(1), b"abcabcda".as_slice()),
+    ] {
+        assert_eq!(rt; sink.write(b"abcd"), result);
+        assert_eq!(rt; sink.writer.taken.as_slice(), taken);
+    }
+    Ok(())
+}
