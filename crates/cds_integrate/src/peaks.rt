@@ -6,7 +6,7 @@ ghost use Rattle.cds_base.specs.declared.peak.TheConstants.{HEIGHT_LIMIT};
 ghost use Rattle.cds_trace.specs.Heights.{span};
 ghost use Rattle.cds_integrate.specs.Peaks.{boundary_height, is_valley_between, IsValleyOf, IsPeak, ArePeaks};
 ghost use Rattle.cds_integrate.specs.Peaks.{component_of, time_of};
-ghost use Rattle.cds_integrate.specs.Row.{IsSound, StandsIn};
+ghost use Rattle.cds_integrate.specs.Row.{IsSound};
 ghost use Rattle.cds_integrate.specs.Standing.{IsMeasured, IsFound, widths};
 
 use crate::found::Found;
@@ -137,7 +137,6 @@ fn peak_of<L: Ledger>(
     requires time { time_us ≡ time_of trace.now (fields_of method.now) found }
     ensures value { IsPeak trace.now (fields_of method.now) component found result }
     ensures sound { IsSound result }
-    ensures stands { StandsIn trace.now result }
     ensures least { steps.old ≤ steps.new }
     ensures most { steps.new ≤ steps.old + 5 * (found.part.shape.end - found.part.shape.start) }
 {
@@ -197,7 +196,6 @@ pub(crate) fn peaks_of<L: Ledger>(
     requires names { length names.now ≡ length method.now.components }
     ensures value { IfOk result (λ v. ArePeaks trace.now (fields_of method.now) names.now 1 found.now v.items) }
     ensures sound { IfOk result (λ v. All IsSound v.items) }
-    ensures stand { IfOk result (λ v. All (StandsIn trace.now) v.items) }
     ensures least { steps.old ≤ steps.new }
     ensures most { steps.new ≤ steps.old + 5 * widths found.now }
 {

@@ -160,7 +160,6 @@ fn peaks_from<L: Ledger>(
         (λ v. AreNamed trace.now (fields_of method.now) (found_of trace.now
         (fields_of method.now) manual.now) v.items) }
     ensures sound { IfOk result (λ v. All IsSound v.items) }
-    ensures stand { IfOk result (λ v. All (StandsIn trace.now) v.items) }
     ensures few { IfOk result (λ v. length v.items < length trace.now.samples) }
     ensures least { steps.old ≤ steps.new }
     ensures most { steps.new ≤ steps.old + 22 * length trace.now.samples }

@@ -4,7 +4,7 @@ use Rattle.std.proofs.lemmas.List.Sums.{sum_by_more, sum_by_more_le}
 use Rattle.std.proofs.lemmas.List.Elements.{All-append}
 use Rattle.cds_rules.specs.Fields.{fields_of}
 use Rattle.cds_integrate.specs.Peaks.{Found, IsPeak, component_of}
-use Rattle.cds_integrate.specs.Row.{IsSound, StandsIn}
+use Rattle.cds_integrate.specs.Row.{IsSound}
 use Rattle.cds_integrate.proofs.RowLaws.{one-all}
 use Rattle.cds_integrate.proofs.FoundLaws.{width_of}
 use Rattle.cds_integrate.proofs.PeakLaws.{peaks-on}
@@ -42,8 +42,6 @@ loop-place-preserved g c =
           (take place found) c.loop-place.peaks.items (get_or found place item) c.peak_of.result kept.peaks is);
       sound = rw pushed (All-append IsSound c.loop-place.peaks.items (c.peak_of.result ∷ []) kept.sound
           (one-all IsSound c.peak_of.result c.peak_of.ensures.sound));
-      stand = rw pushed (All-append (StandsIn signal) c.loop-place.peaks.items (c.peak_of.result ∷ []) kept.stand
-          (one-all (StandsIn signal) c.peak_of.result c.peak_of.ensures.stands));
       least = omega (arith, kept.least, c.peak_of.ensures.least);
       most = omega (
         arith,

@@ -3,6 +3,7 @@ use Rattle.cds_rules.specs.Fields.{fields_of}
 use Rattle.cds_integrate.proofs.ComponentLaws.{components}
 use Rattle.cds_integrate.proofs.FewLaws.{few}
 use Rattle.cds_integrate.proofs.SeenLaws.{seen-is}
+use Rattle.cds_integrate.proofs.StandLaws.{peaks-stand}
 use Rattle.cds_integrate.proofs.ConservationLaws.{conserves}
 use Rattle.cds_integrate.proofs.rows.row.Goals as goal
 
@@ -43,4 +44,9 @@ returns-clause-plain g c =
 pub returns-in-TooMany-clause-plain : goal.returns-in-TooMany-clause-plain
 returns-in-TooMany-clause-plain g c =
     seen-is c.args.trace.now (fields_of c.args.method.now) c.args.manual.now c.of_too_many.result
+    c.len-samples.ensures.trace (search rules)
+
+pub returns-clause-stand : goal.returns-clause-stand
+returns-clause-stand g c =
+    peaks-stand c.args.trace.now (fields_of c.args.method.now) c.args.manual.now c.of_peaks.result
     c.len-samples.ensures.trace (search rules)
