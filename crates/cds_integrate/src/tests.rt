@@ -2,7 +2,7 @@ ghost use Rattle.std.specs.Prelude.{◌≡◌, ◌<◌};
 
 use super::*;
 use crate::worked_rows::{COMMON, ONE, PLAIN, ROWS};
-use cds_base::{Peak, Ratio, Steps};
+use cds_base::{Event, Peak, Ratio, Steps};
 use cds_frac::gcd;
 use cds_rules::Method;
 use cds_trace::Trace;
@@ -11,14 +11,13 @@ use std::marker::Brand;
 use std::sync::ledger::{Blank, Ledger};
 use std::test::Fail;
 
-// The row's own events are those of a method that states them alone.
 fn row_by<L: Ledger>(
     alloc: Global,
     blank: Blank,
     period: u64,
     samples: &[i32],
-    method: &str,
-    manual: &str,
+    method: &Method,
+    manual: &[Event],
 ) -> Result<RowPart, Fail>
     requires name { blank.name ≡ L.name }
     requires parts { blank.parts ≡ L.parts }
@@ -26,13 +25,20 @@ fn row_by<L: Ledger>(
 {
     let mut steps: Steps<L> = Steps::new(blank);
     let trace = Trace::from_samples(alloc, period, samples)?;
-    let text = format!(in alloc; "{COMMON}{method}")?;
-    let method = Method::read_toml(alloc, text.as_bytes())?;
-    let text = format!(in alloc; "{COMMON}{PLAIN}event = [{manual}]\n")?;
-    let own = Method::read_toml(alloc, text.as_bytes())?;
-    Ok(row(alloc, &trace, &method, own.events.as_slice(), &mut steps)?)
+    Ok(row(alloc, &trace, method, manual, &mut steps)?)
 }
 
+fn row_every(
+    alloc: Global,
+    period: u64,
+    samples: &[i32],
+    method: &Method,
+    manual: &[Event],
+) -> Result<RowPart, Fail> {
+    row_by::<Brand>(alloc, Blank::new(1), period, samples, method, manual)
+}
+
+// The row of a method with these lines. The row's own events are those of a method that states them alone.
 fn row_of(
     alloc: Global,
     period: u64,
@@ -40,7 +46,11 @@ fn row_of(
     method: &str,
     manual: &str,
 ) -> Result<RowPart, Fail> {
-    row_by::<Brand>(alloc, Blank::new(1), period, samples, method, manual)
+    let text = format!(in alloc; "{COMMON}{method}")?;
+    let method = Method::read_toml(alloc, text.as_bytes())?;
+    let text = format!(in alloc; "{COMMON}{PLAIN}event = [{manual}]\n")?;
+    let own = Method::read_toml(alloc, text.as_bytes())?;
+    row_every(alloc, period, samples, &method, own.events.as_slice())
 }
 
 // A ratio above 0 in lowest terms.
