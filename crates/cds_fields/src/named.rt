@@ -40,7 +40,7 @@ fn each_number<V: TextValue, E: Refusal>(
 ) -> Result<Vec<(Name, i64)>, E>
     ensures value { Judges E.told (λ v. v.items)
         (each_named (signed_in least most) (seen V.shown E.told section.now).front E.told []
-            (seen V.shown E.told section.now).fields) result }
+        (seen V.shown E.told section.now).fields) result }
     ensures count { IfOk result (λ v. length v.items ≡ length section.now.fields.now.entries) }
 {
     let mut numbers = Vec::new(section.alloc);

@@ -85,9 +85,22 @@ impl Method {
         requires slope_off { (1 ≤ slope_off) × (slope_off ≤ MOST_SLOPE) }
         requires plateau { plateau ≤ MOST_PLATEAU }
         ensures { fields_of result ≡ record {
-            bunch = bunch; slope_on = slope_on; slope_off = slope_off; plateau = plateau; fuse = 0; min_area = 0;
-            min_height = 0; weight = Equal; dead_time_us = None; noise_from_ms = None; noise_to_ms = None;
-            rules = FIRST_RULES; components = []; events = []; checks = [] } }
+          bunch = bunch;
+          slope_on = slope_on;
+          slope_off = slope_off;
+          plateau = plateau;
+          fuse = 0;
+          min_area = 0;
+          min_height = 0;
+          weight = Equal;
+          dead_time_us = None;
+          noise_from_ms = None;
+          noise_to_ms = None;
+          rules = FIRST_RULES;
+          components = [];
+          events = [];
+          checks = [];
+        } }
     {
         Method {
             bunch,
