@@ -5,6 +5,7 @@ ghost use Rattle.cds_book.specs.Tables.{TablesState};
 ghost use Rattle.cds_http.specs.Items.{Message, Item};
 ghost use Rattle.cds_desk.specs.Serving.{World, AreServed, InAll};
 ghost use Rattle.cds_desk.specs.declared.receiving.TheConstants.{MOST_SOURCE_BYTES};
+ghost use Rattle.cds_desk.specs.declared.target.TheConstants.{MOST_PATH_NUMBER};
 ghost use Rattle.cds_desk.specs.Repeat.{IsUnchanged};
 ghost use Rattle.cds_desk.specs.Step.{judged, step, after_change};
 
@@ -33,7 +34,8 @@ pub fn served_items_have_one_outcome()
     ensures { (items : List Item) (before now : World) → AreServed before items now → InAll before now items }
 {}
 
-/// The most bytes that a command reads from its source, as many as a body may have.
+/// The limits of the desk: the most bytes that a command reads from its source, as many as a body may have, and the
+/// greatest number in a path.
 pub fn the_limits()
-    ensures { MOST_SOURCE_BYTES ≡ 16777216 }
+    ensures { (MOST_SOURCE_BYTES ≡ 16777216) × (MOST_PATH_NUMBER ≡ 4294967295) }
 {}

@@ -1,18 +1,19 @@
 -- Laws of the text of a trace: what is stated by the records that were read and those that are left is what is
 -- stated by all of them.
-use Rattle.std.proofs.Common.{◌≡◌, ◌∙◌, ℕ, zero, suc, ◌+◌, ◌-◌, ◌*◌, ◌<◌, ◌≤◌, Bool, true, false, ℤ, pos, negsuc, ◌<ℤ◌, ◌≤ℤ◌, List, [], ◌∷◌, ◌++◌, Option, Some, None, Result, Ok, Err, All, length, append_assoc, arith, ap, sym, refl, inr}
+use Rattle.std.proofs.Common.{◌≡◌, ◌∙◌, ℕ, zero, suc, ◌+◌, ◌-◌, ◌*◌, ◌<◌, ◌≤◌, Bool, true, false, ℤ, pos, negsuc, ◌<ℤ◌, ◌≤ℤ◌, List, [], ◌∷◌, ◌++◌, Option, Some, None, Result, Ok, Err, All, length, append_assoc, arith, ap, sym, refl, inl}
 use Rattle.std.specs.Prelude.{◌==◌, ◌&&◌, codes, nat_le, if◌then◌else◌, option_and_then, unsigned_abs, IsErrAnd}
 use Rattle.std.proofs.lemmas.Bool.Decides.{nat_tests}
 use Rattle.std.proofs.lemmas.Int.{ints}
 use Rattle.std.proofs.lemmas.List.{append-nil}
 use Rattle.std.proofs.lemmas.List.Elements.{All-cons, All-nil}
 use Rattle.csv.specs.Records.{field_at}
+use Rattle.cds_base.specs.Answers.{Gives}
 use Rattle.cds_trace.specs.Number.{number_of}
 use Rattle.cds_trace.specs.Period.{period_at}
 use Rattle.cds_trace.specs.Signal.{IsSample, IsTrace, Signal}
-use Rattle.cds_trace.specs.TraceText.{Fields, first_time, is_header, is_word_at, period_of, sample_before, sample_of, sample_of_numbers, samples_of, time_in_us, time_of, trace_of_rows, trace_of_samples, Reads}
+use Rattle.cds_trace.specs.TraceText.{Fields, first_time, is_header, is_word_at, period_of, sample_before, sample_of, sample_of_numbers, samples_of, time_in_us, time_of, trace_of_rows, trace_of_samples}
 use Rattle.cds_trace.specs.declared.error.TraceError.{TraceError}
-use Rattle.cds_trace.specs.declared.error.TraceError.TheVariants.{BadCsv, NotNumber, TooLong}
+use Rattle.cds_trace.specs.declared.error.TraceError.TheVariants.{BadCsv, NotNumber, TooLong, NoMemory}
 use Rattle.cds_base.specs.declared.time.TheConstants.{LAST_TIME_US}
 use Rattle.cds_trace.specs.declared.trace.TheConstants.{FEWEST_SAMPLES, MOST_SAMPLES}
 use Rattle.cds_trace.proofs.LimitLaws.{IsSample-test}
@@ -285,6 +286,6 @@ IsTold-IsTrace rows i period samples rest told none two =
     rw whole (samples_of-IsTrace (period_of rows) rows samples (samples_of-last (period_of rows) i samples _ (rw none at told.stated)) two)
 
 -- an answer that is the stated refusal
-pub Reads-err : (answer : Result Signal TraceError) (e : TraceError) (stated : Result Signal TraceError) → IsErrAnd answer (λ x. x ≡ e) → stated ≡ Err e → Reads answer stated
-Reads-err (Ok trace) e stated h said = absurd h
-Reads-err (Err x) e stated h said = inr (said ∙ ap Err (sym h))
+pub Gives-err : (answer : Result Signal TraceError) (e : TraceError) (stated : Result Signal TraceError) → IsErrAnd answer (λ x. x ≡ e) → stated ≡ Err e → Gives NoMemory (λ (trace : Signal). trace) stated answer
+Gives-err (Ok trace) e stated h said = absurd h
+Gives-err (Err x) e stated h said = inl (said ∙ ap Err (sym h))

@@ -1,12 +1,12 @@
 -- The text of a trace: records of two fields, a time in microseconds and a sample, behind a header. The first
 -- record that breaks a rule decides, and then the first rule in the order that is stated here. This project's own.
-use Rattle.std.specs.Prelude.{◌≡◌, ◌⊎◌, ℕ, ◌+◌, ◌*◌, Bool, false, not, ◌&&◌, ◌||◌, ◌==◌, nat_le, nat_lt, nat_eq, if◌then◌else◌, ℤ, pos, negsuc, neg_ℤ, int_le, List, [], ◌∷◌, length, Option, Some, None, Result, Ok, Err, codes}
+use Rattle.std.specs.Prelude.{ℕ, ◌+◌, ◌*◌, Bool, false, not, ◌&&◌, ◌||◌, ◌==◌, nat_le, nat_lt, nat_eq, if◌then◌else◌, ℤ, pos, negsuc, neg_ℤ, int_le, List, [], ◌∷◌, length, Option, Some, None, Result, Ok, Err, codes}
 use Rattle.std.specs.Cmp.Lexicographic.{pointwise}
 use Rattle.csv.specs.Reading.{default_config, records, strip_bom}
 use Rattle.cds_trace.specs.Number.{number_of, without_blanks}
 use Rattle.cds_trace.specs.Signal.{Signal}
 use Rattle.cds_trace.specs.declared.error.TraceError.{TraceError}
-use Rattle.cds_trace.specs.declared.error.TraceError.TheVariants.{BadCsv, BadHeader, NotNumber, Uneven, TooShort, TooLong, OutOfRange, NoMemory}
+use Rattle.cds_trace.specs.declared.error.TraceError.TheVariants.{BadCsv, BadHeader, NotNumber, Uneven, TooShort, TooLong, OutOfRange}
 use Rattle.cds_base.specs.declared.time.TheConstants.{LAST_TIME_US}
 use Rattle.cds_trace.specs.declared.trace.TheConstants.{FEWEST_SAMPLES, GREATEST_SAMPLE, MOST_SAMPLES}
 
@@ -118,8 +118,3 @@ trace_of_records (header ∷ rows) = if is_header header then trace_of_rows rows
 -- the trace that the bytes state as CSV, behind a byte order mark if there is one, or what is wrong with them
 unfoldable pub csv_trace : List ℕ → Result Signal TraceError
 csv_trace bytes = trace_of_records (records default_config (strip_bom bytes))
-
--- the answer is the one that is stated, unless memory is wanting
-abbrev pub Reads : Result Signal TraceError → Result Signal TraceError → Type 0
-Reads (Ok trace) stated = stated ≡ Ok trace
-Reads (Err e) stated = (e ≡ NoMemory) ⊎ (stated ≡ Err e)

@@ -2,9 +2,10 @@
 ghost use Rattle.std.specs.Prelude.{◌≡◌, ◌+◌, ◌*◌, ◌^◌, ◌<◌, ◌≤◌, ◌∷◌, [], true, false, length, pos, neg_ℤ, ◌≤ℤ◌, IfOk, IfErr, IfSome, Some, Ok, option_and_then};
 ghost use Rattle.csv.specs.Reading.{error_kind, stops_reader};
 ghost use Rattle.csv.specs.Records.{field_at, fields_of};
+ghost use Rattle.cds_base.specs.Answers.{Gives};
 ghost use Rattle.cds_trace.specs.Number.{number_of};
 ghost use Rattle.cds_trace.specs.Signal.{IsTrace};
-ghost use Rattle.cds_trace.specs.TraceText.{csv_trace, is_header, is_word_at, sample_of, is_time, sample_of_numbers, time_of, trace_of_rows, trace_of_samples, Reads};
+ghost use Rattle.cds_trace.specs.TraceText.{csv_trace, is_header, is_word_at, sample_of, is_time, sample_of_numbers, time_of, trace_of_rows, trace_of_samples};
 ghost use Rattle.cds_trace.specs.Period.{period_at};
 ghost use Rattle.cds_trace.specs.Rows.{rows_left, IsReading};
 ghost use Rattle.cds_trace.specs.declared.error.TraceError.TheVariants.{NoMemory};
@@ -37,7 +38,7 @@ impl Trace {
     /// expected one, or is a second time of 0. Behind all records, fewer than two samples are TooShort. The format
     /// is this project's own.
     pub fn read_csv(alloc: Global, bytes: &[u8]) -> Result<Trace, TraceError>
-        ensures { Reads result (csv_trace bytes.now) }
+        ensures { Gives NoMemory (λ trace. trace) (csv_trace bytes.now) result }
     {
         let mut reader = ReaderBuilder::new()
             .has_headers(false)
@@ -63,7 +64,7 @@ fn read_samples(
     room: usize,
 ) -> Result<Trace, TraceError>
     requires { IsReading reader.old }
-    ensures { Reads result (trace_of_rows (rows_left reader.old)) }
+    ensures { Gives NoMemory (λ trace. trace) (trace_of_rows (rows_left reader.old)) result }
 {
     let mut samples = Vec::with_capacity(alloc, room)?;
     let mut period = 0;
@@ -105,7 +106,7 @@ fn no_memory(error: csv::Error) -> TraceError
 /// The trace of the samples of a whole text.
 fn finished(alloc: Global, period: u64, samples: Vec<i32>) -> Result<Trace, TraceError>
     requires { FEWEST_SAMPLES ≤ length samples.items → IsTrace (record { period = period; samples = samples.items }) }
-    ensures { Reads result (trace_of_samples period (Ok samples.items)) }
+    ensures { Gives NoMemory (λ trace. trace) (trace_of_samples period (Ok samples.items)) result }
 {
     if samples.len() < FEWEST_SAMPLES as usize {
         return Err(TraceError::TooShort);

@@ -1,9 +1,11 @@
 //! A detector trace: how it is made and read.
 ghost use Rattle.std.specs.Prelude.{◌≡◌, ◌+◌, ◌-◌, ◌*◌, ◌<◌, ◌≤◌, pos, neg_ℤ, ◌*ℤ◌, ◌≤ℤ◌, All, IfOk, IfSome, length, not, position};
+ghost use Rattle.cds_base.specs.Answers.{Gives};
 ghost use Rattle.cds_trace.specs.Signal.{sample_at, sum_between, IsSample, IsTrace};
-ghost use Rattle.cds_trace.specs.TraceText.{is_sample, Reads};
+ghost use Rattle.cds_trace.specs.TraceText.{is_sample};
 ghost use Rattle.cds_trace.specs.GivenSamples.{given_trace};
 ghost use Rattle.cds_trace.specs.Sums.{AreSums};
+ghost use Rattle.cds_trace.specs.declared.error.TraceError.TheVariants.{NoMemory};
 
 use crate::error::TraceError;
 use cds_base::{LAST_TIME_US, Steps};
@@ -49,7 +51,7 @@ impl Trace {
     /// a sample is below -100,000,000 or above 100,000,000; OutOfRange carries the index of the first such sample
     /// plus 2, which would be its record in a text. The order is this project's own.
     pub fn from_samples(alloc: Global, period: u64, samples: &[i32]) -> Result<Trace, TraceError>
-        ensures { Reads result (given_trace period samples.now) }
+        ensures { Gives NoMemory (λ trace. trace) (given_trace period samples.now) result }
     {
         if samples.len() > MOST_SAMPLES as usize {
             return Err(TraceError::TooLong);

@@ -1,8 +1,8 @@
-use Rattle.std.proofs.Common.{◌≡◌, ◌∙◌, sym, arith, rules, true, inr, to_z, of_z, w32, FitsSigned}
+use Rattle.std.proofs.Common.{◌≡◌, ◌∙◌, sym, arith, rules, true, inl, to_z, of_z, w32, FitsSigned}
 use Rattle.std.proofs.lemmas.Int.{ints}
 use Rattle.std.specs.Result.{is_ok}
 use Rattle.cds_trace.specs.Rows.{rows_left}
-use Rattle.cds_trace.proofs.TextLaws.{IsTold-first, IsTold-IsTrace, IsTold-last, IsTold-long, IsTold-more, IsTold-wrong, Reads-err}
+use Rattle.cds_trace.proofs.TextLaws.{IsTold-first, IsTold-IsTrace, IsTold-last, IsTold-long, IsTold-more, IsTold-wrong, Gives-err}
 use Rattle.cds_trace.proofs.read.read_samples.Goals as goal
 
 pub loop-index-init : goal.loop-index-init
@@ -20,7 +20,7 @@ returns-then-not-branch c =
 pub returns-in_err-sample_of : goal.returns-in_err-sample_of
 returns-in_err-sample_of c =
     let wrong = rw c.period_at-period.ensures.value at (sym c.in_err-sample_of.was ∙ c.sample_of.ensures) in
-    Reads-err _ c.in_err-sample_of.field-0.0 _ c.from_residual-in_err-sample_of.ensures.1
+    Gives-err _ c.in_err-sample_of.field-0.0 _ c.from_residual-in_err-sample_of.ensures.1
     (IsTold-wrong (rows_left c.args.reader.now) c.loop-index.index c.loop-index.period c.loop-index.samples.items _ _ _ _ c.loop-index.invariant.told (c.in_ok-next_row.ensures.found c.if-not-branch.false) wrong)
 
 pub loop-index-preserved : goal.loop-index-preserved
@@ -38,7 +38,7 @@ loop-index-preserved c =
 
 pub returns-then-branch : goal.returns-then-branch
 returns-then-branch c =
-    inr (IsTold-long (rows_left c.args.reader.now) c.loop-index.index c.loop-index.period c.loop-index.samples.items _ _ _ c.loop-index.invariant.told (c.in_ok-next_row-2.ensures.found c.if-branch.true) (omega arith))
+    inl (IsTold-long (rows_left c.args.reader.now) c.loop-index.index c.loop-index.period c.loop-index.samples.items _ _ _ c.loop-index.invariant.told (c.in_ok-next_row-2.ensures.found c.if-branch.true) (omega arith))
 
 pub finished-requires-2 : goal.finished-requires-2
 finished-requires-2 c two =
