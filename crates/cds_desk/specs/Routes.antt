@@ -9,6 +9,7 @@ use Rattle.matchit.specs.Seek.{first}
 use Rattle.matchit.specs.declared.error.InsertError.{InsertError}
 use Rattle.cds_base.specs.NameText.{name_of}
 use Rattle.cds_desk.specs.Words.{number_in}
+use Rattle.cds_desk.specs.declared.target.TheConstants.{MOST_PATH_NUMBER}
 use Rattle.cds_desk.specs.declared.routes.Route.{Route}
 use Rattle.cds_desk.specs.declared.routes.Route.TheVariants as route
 use Rattle.cds_desk.specs.declared.target.Target.{Target}
@@ -72,7 +73,7 @@ behind_versions path = after_first is_slash (behind_name path)
 
 -- a number of a path: 1 to 4,294,967,295 in decimal digits, without leading zeros
 abbrev pub path_number : List ℕ → Option ℕ
-path_number part = if get_or part 0 48 == 48 then None else number_in 1 4294967295 part
+path_number part = if get_or part 0 48 == 48 then None else number_in 1 MOST_PATH_NUMBER part
 
 -- a version of a trace, where there is a number
 abbrev pub trace_version : List ℕ → Option ℕ → Option Target
