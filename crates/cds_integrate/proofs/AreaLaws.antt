@@ -9,12 +9,11 @@ use Rattle.std.proofs.Math.Nat.{mul-le-mul_right}
 use Rattle.cds_trace.specs.Signal.{Signal, IsSample, IsTrace}
 use Rattle.cds_trace.specs.declared.trace.TheConstants.{GREATEST_SAMPLE}
 use Rattle.cds_trace.specs.Heights.{span}
-use Rattle.cds_area.proofs.AreaLaws.{area-whole, abs-area-le, abs-sample-le}
+use Rattle.cds_area.proofs.AreaLaws.{abs-area-le, abs-sample-le}
 use Rattle.cds_integrate.specs.Shapes.{Shape}
-use Rattle.cds_trace.specs.Heights.{chord}
 use Rattle.cds_integrate.specs.Measures.{riders, area_end, gross_area, gross_areas, twice_area, twice_areas, area_of}
 use Rattle.cds_integrate.specs.Standing.{IsShape, Reaches, InRow, most_area}
-use Rattle.cds_integrate.proofs.RowLaws.{no_shape, area_end-low, shapes-at}
+use Rattle.cds_integrate.proofs.RowLaws.{area_end-low, shapes-at}
 
 -- gross areas from one part on
 pub gross-drop : (signal : Signal) (k : ℕ) (shapes : List Shape) →

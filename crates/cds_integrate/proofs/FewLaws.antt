@@ -1,12 +1,11 @@
 -- A row has few peaks: at most as many as it may have raw peaks, and one for each drop event.
-use Rattle.std.proofs.Common.{◌≡◌, ℕ, suc, ◌+◌, ◌≤◌, true, false, List, [], ◌∷◌, Option, Some, None, length, refl}
-use Rattle.std.proofs.Common.{arith, ap, inl, inr}
-use Rattle.std.specs.List.{sum_by, flat_map}
+use Rattle.std.proofs.Common.{◌≤◌, List, [], ◌∷◌, Option, Some, None, length}
+use Rattle.std.proofs.Common.{arith, inl, inr}
+use Rattle.std.specs.List.{flat_map}
 use Rattle.std.proofs.lemmas.Bool.{cases_Bool}
 use Rattle.std.proofs.lemmas.List.{length-append, length-map}
 use Rattle.std.proofs.lemmas.List.Sums.{sum_by-cons}
 use Rattle.cds_base.specs.declared.event.Event.{Event}
-use Rattle.cds_base.specs.declared.peak.Peak.{Peak}
 use Rattle.cds_base.specs.declared.peak.RawPeak.{RawPeak}
 use Rattle.cds_base.specs.declared.cluster.Cluster.{Cluster}
 use Rattle.cds_rules.specs.Fields.{Fields}

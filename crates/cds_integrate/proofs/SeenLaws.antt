@@ -1,6 +1,6 @@
 -- A row in plain numbers is determined.
-use Rattle.std.proofs.Common.{◌≡◌, ℕ, suc, ◌*◌, ◌<◌, ◌≤◌, true, false, List, [], ◌∷◌, map, length, All, Option, Some}
-use Rattle.std.proofs.Common.{None, option_map, ℤ, refl, sym, ap, ap₂, subst, ◌∙◌, arith, inl, inr}
+use Rattle.std.proofs.Common.{◌≡◌, ℕ, suc, ◌*◌, ◌<◌, List, [], ◌∷◌, map, length, Option, Some}
+use Rattle.std.proofs.Common.{None, option_map, ℤ, refl, ap, ap₂, ◌∙◌, arith, inl, inr}
 use Rattle.std.specs.Prelude.{IfSome}
 use Rattle.std.proofs.lemmas.Bool.{cases_Bool, le-leb, lt-leb}
 use Rattle.cds_base.specs.declared.event.Event.{Event}
@@ -20,7 +20,7 @@ use Rattle.cds_integrate.specs.Measures.{Measured}
 use Rattle.cds_integrate.specs.Peaks.{Found, boundary_height, is_valley_between, neighbour, IsValley, IsPeak, ArePeaks}
 use Rattle.cds_integrate.specs.Peaks.{component_of, time_of}
 use Rattle.cds_integrate.specs.Row.{Answer, Peaks, TooMany, events_of, row_clusters, windows_of, found_of, IsRow}
-use Rattle.cds_integrate.specs.Seen.{PeakSeen, RowSeen, peaks, too_many, ratio_seen, peak_seen, heights_seen, seen}
+use Rattle.cds_integrate.specs.Seen.{PeakSeen, peaks, too_many, ratio_seen, peak_seen, heights_seen, seen}
 use Rattle.cds_integrate.specs.Seen.{heights_of, peak_of, peaks_of, naming_of, row_seen}
 use Rattle.cds_integrate.specs.Standing.{IsShape}
 use Rattle.cds_integrate.proofs.ConservationLaws.{row-clusters}

@@ -1,26 +1,22 @@
 -- How the parts of a cluster stand on their lines.
-use Rattle.std.proofs.Common.{◌≡◌, ℕ, suc, ◌+◌, ◌-◌, ◌*◌, ◌<◌, ◌≤◌, inl, inr, Bool, true, false, not, ◌&&◌, List, []}
-use Rattle.std.proofs.Common.{◌∷◌, map, length, All, pos, ◌*ℤ◌, ◌≤ℤ◌, refl, sym, arith}
+use Rattle.std.proofs.Common.{◌≡◌, ℕ, suc, ◌*◌, ◌<◌, ◌≤◌, inl, inr, Bool, true, false, not, ◌&&◌, List, []}
+use Rattle.std.proofs.Common.{◌∷◌, map, length, All, pos, refl, sym, arith}
 use Rattle.std.proofs.lemmas.List.{length-map}
 use Rattle.std.specs.Prelude.{slice_index_or, nat_lt, ◌==◌}
 use Rattle.std.specs.List.{list_any}
 use Rattle.std.proofs.lemmas.Bool.{cases_Bool, and_parts}
-use Rattle.std.proofs.lemmas.Int.{ints}
 use Rattle.std.proofs.lemmas.Grind.{common_steps}
-use borrow.Author.Differences.{le-true}
 use Rattle.cds_base.specs.declared.event.Event.{Event}
 use Rattle.cds_base.specs.declared.cluster.Part.{Part}
 use Rattle.cds_base.specs.declared.cluster.Cluster.{Cluster}
 use Rattle.cds_base.specs.Tiles.{Tiles}
 use Rattle.cds_trace.specs.Signal.{Signal, IsSample, IsTrace, sample_at}
-use Rattle.cds_trace.specs.Heights.{span, height_by_span}
 use Rattle.std.proofs.lemmas.List.Elements.{All-get_or}
-use Rattle.cds_baseline.specs.Chord.{chord_by_span, is_over}
+use Rattle.cds_baseline.specs.Chord.{is_over}
 use Rattle.cds_baseline.specs.Cluster.{is_valley}
 use Rattle.cds_baseline.specs.Tangent.{tangent_sample}
 use Rattle.cds_events.specs.Standing.{IsPart, IsCluster}
 use Rattle.cds_integrate.specs.Shapes.{Shape}
-use Rattle.cds_trace.specs.Heights.{chord}
 use Rattle.cds_integrate.specs.Lines.{last_up_to, first_behind}
 use Rattle.cds_integrate.specs.Shapes.{skims, is_covered, nodes_of, is_skimmed, is_rider, rider_shape, plain_shape}
 use Rattle.cds_integrate.specs.Shapes.{shape_of}

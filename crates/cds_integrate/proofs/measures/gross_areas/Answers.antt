@@ -1,4 +1,4 @@
-use Rattle.std.proofs.Common.{ℤ, ◌≡◌, ◌+◌, ◌∷◌, ◌++◌, [], drop, get_or, sym, ◌∙◌, ap, append_assoc, length, ◌<◌, ◌^◌}
+use Rattle.std.proofs.Common.{ℤ, ◌≡◌, ◌+◌, ◌∷◌, ◌++◌, [], drop, sym, ◌∙◌, ap, append_assoc, length, ◌<◌, ◌^◌}
 use Rattle.std.proofs.Common.{arith, rules}
 use Rattle.std.specs.Prelude.{unsigned_abs}
 use Rattle.std.proofs.lemmas.List.Elements.{All-append}
