@@ -8,7 +8,7 @@ use std::test::Fail;
 #[derive(Clone, Copy, Debug, PartialEq, Eq)]
 enum Call {
     Interrupted,
-    Fails,
+    Fails(ErrorKind),
     Moves(usize),
 }
 
@@ -27,7 +27,7 @@ impl Scripted {
         self.at = self.at.saturating_add(1);
         match call {
             Call::Interrupted => Err(ErrorKind::Interrupted.into()),
-            Call::Fails => Err(ErrorKind::Other.into()),
+            Call::Fails(kind) => Err(kind.into()),
             Call::Moves(count) => Ok(count.min(most)),
         }
     }
@@ -64,8 +64,12 @@ fn a_read_that_fails_is_no_end_of_the_input(rt: HostRuntime) -> Result<(), Fail>
     let calls = [
         Call::Moves(3),
         Call::Interrupted,
+        Call::Interrupted,
+        Call::Interrupted,
         Call::Moves(2),
-        Call::Fails,
+        Call::Fails(ErrorKind::UnexpectedEof),
+        Call::Fails(ErrorKind::OutOfMemory),
+        Call::Fails(ErrorKind::Other),
         Call::Moves(1),
     ];
     let reader = Scripted {
@@ -78,6 +82,8 @@ fn a_read_that_fails_is_no_end_of_the_input(rt: HostRuntime) -> Result<(), Fail>
     for (result, read) in [
         (Ok(3), b"rrr-"),
         (Ok(2), b"rr--"),
+        (Err(Failed), b"----"),
+        (Err(Failed), b"----"),
         (Err(Failed), b"----"),
         (Ok(1), b"r---"),
         (Ok(0), b"----"),
@@ -94,8 +100,11 @@ fn bytes_count_as_written_where_the_writer_took_them(rt: HostRuntime) -> Result<
     let calls = [
         Call::Moves(3),
         Call::Interrupted,
+        Call::Interrupted,
+        Call::Interrupted,
         Call::Moves(9),
-        Call::Fails,
+        Call::Fails(ErrorKind::BrokenPipe),
+        Call::Fails(ErrorKind::Other),
         Call::Moves(0),
         Call::Moves(1),
     ];
@@ -108,6 +117,7 @@ fn bytes_count_as_written_where_the_writer_took_them(rt: HostRuntime) -> Result<
     for (result, taken) in [
         (Ok(3), b"abc".as_slice()),
         (Ok(4), b"abcabcd".as_slice()),
+        (Err(Failed), b"abcabcd".as_slice()),
         (Err(Failed), b"abcabcd".as_slice()),
         (Err(Failed), b"abcabcd".as_slice()),
         (Ok(1), b"abcabcda".as_slice()),

@@ -99,7 +99,7 @@ fn a_draft_is_frozen_edited_and_frozen_again(rt: HostRuntime) -> Result<(), Fail
     assert_eq!(rt; keeper.content().len(), 4);
     assert_eq!(rt;
         keeper.content().get(1),
-        b"\x01\x03\x01m\x00\x00\x00\x01".as_slice()
+        b"\x02\x03\x01m\x00\x00\x00\x01".as_slice()
     );
     Ok(())
 }
