@@ -1,5 +1,5 @@
 //! The points of a calibration.
-ghost use Rattle.std.specs.Prelude.{◌≡◌, ◌<◌, ◌≤◌, [], ◌↔◌, IsTrue, IfOk, length, insert, remove};
+ghost use Rattle.std.specs.Prelude.{◌≡◌, ◌<◌, ◌≤◌, [], ◌↔◌, IsTrue, IfOk, length, insert, remove, slice_get};
 ghost use Rattle.cds_calib.specs.Points.{IsCalibration};
 ghost use Rattle.cds_calib.specs.Sums.{sums_of, IsSmall};
 
@@ -87,6 +87,13 @@ impl Points {
         ensures shape { IsCalibration self.now }
     {
         self.items.as_slice()
+    }
+
+    /// The point at a place, counted from 0. None exactly where there are not so many points.
+    pub fn get(&self, i: u32) -> Option<Point>
+        ensures { result ≡ slice_get self.now i }
+    {
+        self.items.get(i as usize).copied()
     }
 
     /// How many points there are.

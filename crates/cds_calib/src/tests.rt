@@ -316,7 +316,11 @@ fn a_point_that_is_taken_out_leaves_no_trace(rt: HostRuntime) -> Result<(), Fail
     assert_eq!(rt; points.len(), 3);
     points.add(1, 1_000, 7);
     assert_eq!(rt; points.len(), 4);
-    assert_eq!(rt; points.as_slice()[1].amount, 1_000);
+    assert_eq!(rt;
+        points.get(1).map(|point| (point.amount, point.area)),
+        Some((1_000, 7))
+    );
+    assert_eq!(rt; points.get(4), None);
     points.remove(1);
     assert!(rt; !points.is_empty());
     assert_eq!(rt; line(&points, Weight::Equal), Ok([10, 1, 5, 1]));
