@@ -1,4 +1,6 @@
 //! The devices of the system, over a reader and a writer whose calls go as a list says.
+ghost use Rattle.std.specs.Prelude.{◌≤◌, IfOk};
+
 use crate::devices::{ReaderSource, WriterSink};
 use cds_base::{Failed, Sink, Source};
 use std::io::{self, ErrorKind, Read, Write};
@@ -22,7 +24,9 @@ struct Scripted {
 
 impl Scripted {
     /// How many bytes the next call moves, at most as many as it may.
-    fn next(&mut self, most: usize) -> io::Result<usize> {
+    fn next(&mut self, most: usize) -> io::Result<usize>
+        ensures { IfOk result (λ n. n ≤ most) }
+    {
         let call = self.calls.get(self.at).copied().unwrap_or(Call::Moves(0));
         self.at = self.at.saturating_add(1);
         match call {
