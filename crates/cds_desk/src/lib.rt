@@ -34,8 +34,6 @@ pub use serving::Ended;
 pub use top::{DAMAGED, KEEPER_FAILED, NO_COMMAND, NO_MEMORY, SINK_FAILED, SOURCE_FAILED, run};
 
 #[cfg(test)]
-mod long_trace_tests;
-#[cfg(test)]
 mod method_tests;
 #[cfg(test)]
 mod session_tests;
