@@ -27,13 +27,7 @@ impl<R: Read + Drop> ReaderSource<R> {
 }
 
 impl<R: Read + Drop> Source for ReaderSource<R> {
-    ghost given = { λ _. None };
-
-    ghost left = { λ _. None };
-
-    ghost bound = { λ s. s.bound };
-
-    ghost faults = { λ s. s.faults };
+    ghost told = { λ s. record { given = None; left = None; bound = s.bound; faults = s.faults } };
 
     fn read(&mut self, buf: &mut [u8]) -> Result<usize, Failed> {
         let room = buf.len().min(self.bound as usize);
@@ -81,9 +75,7 @@ impl<W: Write + Drop> WriterSink<W> {
 }
 
 impl<W: Write + Drop> Sink for WriterSink<W> {
-    ghost written = { λ _. None };
-
-    ghost faults = { λ s. s.faults };
+    ghost told = { λ s. record { written = None; faults = s.faults } };
 
     fn write(&mut self, piece: &[u8]) -> Result<usize, Failed> {
         match write_some(&mut self.writer, piece) {

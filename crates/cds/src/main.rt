@@ -22,10 +22,10 @@ fn main(rt: HostRuntime) -> ExitCode {
         Ok(words) => words.skip(1).collect::<Vec<String>>(rt.alloc()),
         // Arguments that cannot be read are no command, as no words are.
         Err(error) if error.kind() != io::ErrorKind::OutOfMemory => Ok(Vec::new(rt.alloc())),
-        Err(_) => return ExitCode::from(cds_desk::NO_MEMORY),
+        Err(_) => return ExitCode::from(cds_desk::Status::NoMemory.number()),
     };
     let Ok(words) = words else {
-        return ExitCode::from(cds_desk::NO_MEMORY);
+        return ExitCode::from(cds_desk::Status::NoMemory.number());
     };
     ExitCode::from(over_devices(&rt, &words))
 }
@@ -39,7 +39,7 @@ fn over_devices(rt: &HostRuntime, words: &[String]) -> u8 {
         FixedClock::new(alloc, &[], 0),
         MemDoor::new(alloc, VecDeque::new(alloc), &[]),
     ) else {
-        return cds_desk::NO_MEMORY;
+        return cds_desk::Status::NoMemory.number();
     };
     let mut source = ReaderSource::new(rt.stdin());
     let mut sink = WriterSink::new(rt.stdout());

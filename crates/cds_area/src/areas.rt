@@ -6,7 +6,7 @@ ghost use Rattle.cds_trace.specs.Heights.{span, level_by_span};
 ghost use Rattle.cds_area.specs.Area.{area_by_double_span, IsRatio};
 
 use cds_base::{Line, Ratio, Steps};
-use cds_trace::{Trace, level_by_span};
+use cds_trace::{Trace, level_by_span, span};
 use std::sync::ledger::Ledger;
 
 /// A sum of samples less its last one, and the same sum less its first one, together.
@@ -68,7 +68,8 @@ pub fn area<L: Ledger>(
     ensures value { IsRatio result (area_by_double_span trace.now line.now start end) (2 * span line.now) }
     ensures numerator { result.num ≡ area_by_double_span trace.now line.now start end }
     ensures divisor { result.den ≡ 2 * span line.now }
-    ensures bounded { (most : ℕ) → GREATEST_SAMPLE ≤ℤ pos most → unsigned_abs line.now.from_y ≤ most → unsigned_abs line.now.to_y ≤ most →
+    ensures bounded { (most : ℕ) → GREATEST_SAMPLE ≤ℤ pos most → unsigned_abs line.now.from_y ≤ most
+        → unsigned_abs line.now.to_y ≤ most →
         unsigned_abs result.num ≤ 2 * most * (end - start) * result.den }
     ensures counted { steps.new ≡ steps.old + 4 }
 
@@ -78,7 +79,7 @@ pub fn area<L: Ledger>(
 {
     let samples = trace.len();
     prove!(line.to < samples);
-    let span = line.to - line.from;
+    let span = span(*line);
     let sides = sides(start, end, trace, steps);
     Ratio {
         num: excess(sides, span, levels(line, start, end), end - start),

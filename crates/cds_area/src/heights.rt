@@ -5,7 +5,7 @@ ghost use Rattle.cds_trace.specs.Heights.{span, height_by_span};
 ghost use Rattle.cds_area.specs.Area.{IsRatio};
 
 use cds_base::{Line, Ratio, Steps};
-use cds_trace::{Trace, height_by_span};
+use cds_trace::{Trace, height_by_span, span};
 use std::sync::ledger::Ledger;
 
 /// The height at the sample `i`: the signal minus the line there, in counts, as an exact fraction over the line's
@@ -25,6 +25,6 @@ pub fn height<L: Ledger>(i: u32, line: &Line, trace: &Trace, steps: &mut Steps<L
 {
     Ratio {
         num: i128::from(height_by_span(i, line, trace, steps)),
-        den: u64::from(line.to - line.from),
+        den: u64::from(span(*line)),
     }
 }

@@ -1,5 +1,8 @@
 -- What a door tells: where it listens, the connections to come and the closed ones.
-use Rattle.std.specs.Prelude.{ℕ, ◌-◌, List, [], ◌∷◌, ◌++◌, length, take, drop, Option, Some}
+use Rattle.std.specs.Prelude.{ℕ, ◌-◌, List, [], ◌∷◌, ◌++◌, length, take, drop, Option, Some, option_map}
+use Rattle.std.specs.Option.{option_and_then}
+use Rattle.cds_base.specs.Sink.{SinkTold}
+use Rattle.cds_base.specs.Source.{SourceTold}
 
 -- a closed connection: the bytes that its source gave, those that are left of it, the counts of faults of its source
 -- and its sink, and the bytes that its sink took
@@ -17,6 +20,12 @@ pub record DoorState : Type 0 where
   pub coming : List (List ℕ)
   pub closed : List Closed
 
+-- what a door tells: the above, where it is told; how many pairs were taken and not closed; how many calls failed
+pub record DoorTold : Type 0 where
+  pub connections : Option DoorState
+  pub pairs : ℕ
+  pub faults : ℕ
+
 -- the door once it was opened at this port
 abbrev pub opened_at : ℕ → DoorState → DoorState
 opened_at port door = record { port = Some port; coming = door.coming; closed = door.closed }
@@ -31,7 +40,11 @@ with_closed connection door = record { port = door.port; coming = door.coming; c
 
 -- the door before its last connection was closed
 abbrev pub before_closing : DoorState → DoorState
-before_closing door = record { port = door.port; coming = door.coming; closed = take (length door.closed - 1) door.closed }
+before_closing door = record {
+  port = door.port;
+  coming = door.coming;
+  closed = take (length door.closed - 1) door.closed;
+}
 
 -- the closed connection of which this is told
 abbrev pub closed_connection : List ℕ → List ℕ → ℕ → ℕ → List ℕ → Closed
@@ -42,3 +55,9 @@ closed_connection given left source_faults sink_faults written = record {
   sink_faults = sink_faults;
   written = written;
 }
+
+-- the closed connection of a source and a sink that tell these, where both tell their content
+abbrev pub closed_of : SourceTold → SinkTold → Option Closed
+closed_of input output =
+    option_and_then (λ given. option_and_then (λ left. option_map (λ written.
+    closed_connection given left input.faults output.faults written) output.written) input.left) input.given

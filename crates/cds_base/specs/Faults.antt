@@ -7,4 +7,4 @@ most_faults = 2 ^ 64 - 1
 
 -- the count rose: it is greater than before, or stands at its greatest value
 abbrev pub Rose : ℕ → ℕ → Type 0
-Rose before now = min (before + 1) (2 ^ 64 - 1) ≤ now
+Rose before now = min (before + 1) most_faults ≤ now

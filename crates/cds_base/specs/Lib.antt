@@ -9,6 +9,7 @@ pub mod Door
 pub mod MemDoor
 pub mod Tiles
 pub mod EventTime
+pub mod EventRange
 pub mod Search
 pub mod RatioOrder
 pub mod Answers

@@ -1,6 +1,11 @@
--- What the object in memory that takes bytes holds.
-use Rattle.std.specs.Prelude.{ℕ, List, length, min}
+-- What a sink tells, and what the object in memory that takes bytes holds.
+use Rattle.std.specs.Prelude.{ℕ, List, length, min, Option}
 use Rattle.cds_base.specs.Failing.{FailingState}
+
+-- the bytes written, where they are told, and how many of its calls failed
+pub record SinkTold : Type 0 where
+  pub written : Option (List ℕ)
+  pub faults : ℕ
 
 -- bytes written, the most that one call takes, and which calls fail
 pub record SinkState : Type 0 where

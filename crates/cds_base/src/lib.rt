@@ -33,7 +33,7 @@ pub use bytes::Bytes;
 pub use clock::{Clock, MOMENT_LIMIT};
 pub use cluster::{Cluster, Cut, Part, Parts};
 pub use door::Door;
-pub use event::{Event, EventList, is_in_window};
+pub use event::{Event, EventList, MOST_EVENTS, MOST_SLOPE, is_in_window};
 pub use failed::Failed;
 pub use failing::Failing;
 pub use fixed_clock::FixedClock;

@@ -36,7 +36,8 @@ impl Model for MemDoor {
 
     ghost view = { λ a. record { told = record { port = a.port; coming = map bytes_of a.coming.items; closed = map closed_pair a.closed.items }; pairs = a.pairs; failing = a.failing } };
 
-    ghost invariant = { λ a. HasRoom a.coming.items (vec_len a.closed) a.pairs (deque_len a.coming) (vec_capacity a.closed) };
+    ghost invariant = { λ a. HasRoom a.coming.items (vec_len a.closed) a.pairs (deque_len a.coming)
+        (vec_capacity a.closed) };
 }
 
 impl MemDoor {
@@ -83,11 +84,7 @@ impl Door for MemDoor {
 
     type Out = MemSink;
 
-    ghost told = { λ s. Some s.told };
-
-    ghost pairs = { λ s. s.pairs };
-
-    ghost faults = { λ s. s.failing.faults };
+    ghost told = { λ s. record { connections = Some s.told; pairs = s.pairs; faults = s.failing.faults } };
 
     /// As the trait says. It fails exactly at the calls that are to fail.
     fn open(&mut self, port: u16) -> Result<(), Failed>

@@ -53,16 +53,15 @@ impl MemSink {
 }
 
 impl Sink for MemSink {
-    ghost written = { λ s. Some s.written };
-
-    ghost faults = { λ s. s.failing.faults };
+    ghost told = { λ s. record { written = Some s.written; faults = s.failing.faults } };
 
     /// As the trait says. It fails at the calls that are to fail, and else only where memory is wanting.
     fn write(&mut self, piece: &[u8]) -> Result<usize, Failed>
         ensures within { IfOk result (λ n. n ≤ length piece.now) }
         ensures count { IfOk result (λ n. n ≡ taken_at_once self.old piece.now) }
         ensures some { IfOk result (λ n. 0 < length piece.now → 0 < n) }
-        ensures writes { IfOk result (λ n. Some self.new.written ≡ then_more (Some self.old.written) (take n piece.now)) }
+        ensures writes { IfOk result
+            (λ n. Some self.new.written ≡ then_more (Some self.old.written) (take n piece.now)) }
         ensures counts { self.old.failing.faults ≤ self.new.failing.faults }
         ensures failed { OnErr result (Rose self.old.failing.faults self.new.failing.faults) }
         ensures kept { IfOk result (λ _. self.new.failing.faults ≡ self.old.failing.faults) }

@@ -61,13 +61,7 @@ impl MemSource {
 }
 
 impl Source for MemSource {
-    ghost given = { λ s. Some s.given };
-
-    ghost left = { λ s. Some s.left };
-
-    ghost bound = { λ s. length s.left };
-
-    ghost faults = { λ s. s.failing.faults };
+    ghost told = { λ s. record { given = Some s.given; left = Some s.left; bound = length s.left; faults = s.failing.faults } };
 
     #[tactic(auto, using(crate::proofs::Reading::take_read, crate::proofs::Reading::left_read))]
     /// As the trait says. It fails exactly at the calls that are to fail.

@@ -71,7 +71,8 @@ impl<V: Drop> NamedList<V> {
         requires { AreRising (map (λ e. e.name) self.old.entries.items) }
         ensures stay { self.new.entries.items ≡ self.old.entries.items }
         ensures place { IfOk result (IsPlaceOf (λ e. e.name) self.old.entries.items name) }
-        ensures room { IfOk result (λ place. HasRoomFor place (vec_len self.new.entries) (vec_capacity self.new.entries)) }
+        ensures room { IfOk result
+            (λ place. HasRoomFor place (vec_len self.new.entries) (vec_capacity self.new.entries)) }
     {
         let place = self.place(name);
         if let Place::Gap(_) = place {
@@ -85,8 +86,10 @@ impl<V: Drop> NamedList<V> {
     pub fn put(&mut self, place: Place, name: Name, value: V)
         requires place { IsPlaceOf (λ e. e.name) self.old.entries.items name place }
         requires room { HasRoomFor place (vec_len self.old.entries) (vec_capacity self.old.entries) }
-        ensures value { self.new.entries.items ≡ placed (λ e. e.name) self.old.entries.items (record { name = name; value = value }) }
-        ensures rising { AreRising (map (λ e. e.name) self.old.entries.items) → AreRising (map (λ e. e.name) self.new.entries.items) }
+        ensures value { self.new.entries.items
+            ≡ placed (λ e. e.name) self.old.entries.items (record { name = name; value = value }) }
+        ensures rising { AreRising (map (λ e. e.name) self.old.entries.items)
+            → AreRising (map (λ e. e.name) self.new.entries.items) }
     {
         let entry = Named { name, value };
         match place {

@@ -36,13 +36,7 @@ impl NoFailSource {
 }
 
 impl Source for NoFailSource {
-    ghost given = { λ s. Some s.0 };
-
-    ghost left = { λ s. Some s.1 };
-
-    ghost bound = { λ s. length s.1 };
-
-    ghost faults = { λ _. 0 };
+    ghost told = { λ s. record { given = Some s.0; left = Some s.1; bound = length s.1; faults = 0 } };
 
     #[tactic(auto, using(crate::proofs::Reading::take_read, crate::proofs::Reading::left_read))]
     fn read(&mut self, buf: &mut [u8]) -> Result<usize, Failed> {
@@ -57,9 +51,7 @@ impl Source for NoFailSource {
 pub struct NoFailSink;
 
 impl Sink for NoFailSink {
-    ghost written = { λ _. None };
-
-    ghost faults = { λ _. 0 };
+    ghost told = { λ _. record { written = None; faults = 0 } };
 
     fn write(&mut self, piece: &[u8]) -> Result<usize, Failed> {
         Ok(piece.len())

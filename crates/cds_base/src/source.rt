@@ -1,5 +1,6 @@
-ghost use Rattle.std.specs.Prelude.{◌≡◌, ℕ, ◌+◌, ◌^◌, ◌<◌, ◌≤◌, List, [], ◌++◌, ◌-◌, length, take, drop, min, Option, IfOk, OnErr, IfSome};
+ghost use Rattle.std.specs.Prelude.{◌≡◌, ◌+◌, ◌^◌, ◌<◌, ◌≤◌, [], ◌++◌, ◌-◌, length, take, drop, min, IfOk, OnErr, IfSome};
 ghost use Rattle.cds_base.specs.Faults.{Rose};
+ghost use Rattle.cds_base.specs.Source.{SourceTold};
 ghost use Rattle.cds_base.specs.Told.{then_more, more_before};
 
 use crate::failed::Failed;
@@ -7,17 +8,9 @@ use crate::failed::Failed;
 /// Where bytes come from. It may tell the bytes that it has given and those that are left to read; whether it
 /// tells them stays as it is. It can give fewer than 2^64 bytes more, and its count of faults never falls.
 pub trait Source {
-    /// The bytes that it has given, where it tells them.
-    ghost given: { Self → Option (List ℕ) };
-
-    /// The bytes that are left to read, where it tells them.
-    ghost left: { Self → Option (List ℕ) };
-
-    /// How many bytes it may still give.
-    ghost bound: { Self → ℕ };
-
-    /// How many of its calls failed, up to 2^64 - 1.
-    ghost faults: { Self → ℕ };
+    /// What it tells: the bytes that it has given and those that are left, where it tells them; how many bytes it may
+    /// still give; and how many of its calls failed, up to 2^64 - 1.
+    ghost told: { Self → SourceTold };
 
     /// Puts the next bytes at the front of `buf` and answers how many; 0 is the end of input, and comes
     /// exactly where nothing is left. `Failed` comes only where the count of faults rose in this call, and the count
@@ -26,17 +19,17 @@ pub trait Source {
     fn read(&mut self, buf: &mut [u8]) -> Result<usize, Failed>
         requires { 0 < length buf.old }
         ensures within { IfOk result (λ n. n ≤ length buf.old) }
-        ensures gives { IfOk result (λ n. given self.new ≡ then_more (given self.old) (take n buf.new)) }
-        ensures takes { IfOk result (λ n. left self.old ≡ more_before (take n buf.new) (left self.new)) }
-        ensures ended { IfOk result (λ n. n ≡ 0 → IfSome (left self.new) (λ rest. rest ≡ [])) }
-        ensures nears { IfOk result (λ n. bound self.new + n ≡ bound self.old) }
-        ensures bounded { bound self.old < 2 ^ 64 }
-        ensures counts { faults self.old ≤ faults self.new }
-        ensures failed { OnErr result (Rose (faults self.old) (faults self.new)) }
-        ensures kept { IfOk result (λ _. faults self.new ≡ faults self.old) }
-        ensures given_stays { OnErr result (given self.new ≡ given self.old) }
-        ensures left_stays { OnErr result (left self.new ≡ left self.old) }
-        ensures bound_stays { OnErr result (bound self.new ≡ bound self.old) };
+        ensures gives { IfOk result (λ n. (told self.new).given ≡ then_more (told self.old).given (take n buf.new)) }
+        ensures takes { IfOk result (λ n. (told self.old).left ≡ more_before (take n buf.new) (told self.new).left) }
+        ensures ended { IfOk result (λ n. n ≡ 0 → IfSome (told self.new).left (λ rest. rest ≡ [])) }
+        ensures nears { IfOk result (λ n. (told self.new).bound + n ≡ (told self.old).bound) }
+        ensures bounded { (told self.old).bound < 2 ^ 64 }
+        ensures counts { (told self.old).faults ≤ (told self.new).faults }
+        ensures failed { OnErr result (Rose (told self.old).faults (told self.new).faults) }
+        ensures kept { IfOk result (λ _. (told self.new).faults ≡ (told self.old).faults) }
+        ensures given_stays { OnErr result ((told self.new).given ≡ (told self.old).given) }
+        ensures left_stays { OnErr result ((told self.new).left ≡ (told self.old).left) }
+        ensures bound_stays { OnErr result ((told self.new).bound ≡ (told self.old).bound) };
 }
 
 /// Gives the bytes that stand from the place `at` on: as many as are there, `buf` has room for and `most` says.

@@ -102,8 +102,9 @@ fn add_connection(
 
 // What is read of the next connection in one call of room for three bytes, written back to it before it is closed.
 fn echo<D: Door>(door: &mut D, room: &mut [u8; 3]) -> Result<usize, Failed>
-    ensures pairs { D.pairs door.new ≡ D.pairs door.old }
-    ensures port { IfSome (D.told door.old) (λ told. IfSome (D.told door.new) (λ now. now.port ≡ told.port)) }
+    ensures pairs { (D.told door.new).pairs ≡ (D.told door.old).pairs }
+    ensures port { IfSome (D.told door.old).connections
+        (λ told. IfSome (D.told door.new).connections (λ now. now.port ≡ told.port)) }
 {
     let (mut source, mut sink) = door.next()?;
     let read = source.read(room);

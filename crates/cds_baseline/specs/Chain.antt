@@ -1,6 +1,8 @@
 -- The chain of vertices over which a baseline is stretched, as it is kept while points are added. Points are numbered:
 -- x is the sample of a point, y its level, f whether it is fixed; s is the point of a vertex.
-use Rattle.std.specs.Prelude.{◌≡◌, ℕ, ◌+◌, ◌-◌, ◌<◌, ℤ, pos, ◌+ℤ◌, ◌*ℤ◌, Bool, true, false, not, ◌&&◌, ◌⊎◌, List, length, get_or, int_lt, nat_le}
+use Rattle.std.specs.Prelude.{◌≡◌, ℕ, ◌+◌, ◌-◌, ◌<◌, ℤ, pos, Bool, true, false, not, ◌&&◌, ◌⊎◌, List, length, get_or, nat_le}
+use Rattle.cds_base.specs.declared.peak.Line.{Line}
+use Rattle.cds_baseline.specs.Chord.{is_below}
 use Rattle.cds_baseline.specs.Nodes.{sample_of, is_fixed}
 
 -- the level of point i
@@ -11,9 +13,13 @@ level_of levels i = get_or levels i (pos 0)
 abbrev pub vertex : List ℕ → ℕ → ℕ
 vertex chain j = get_or chain j 0
 
+-- the chord from point a to point b
+abbrev pub chord_of : (ℕ → ℕ) → (ℕ → ℤ) → ℕ → ℕ → Line
+chord_of x y a b = record { from = x a; from_y = y a; to = x b; to_y = y b }
+
 -- whether the chord from point a to point b passes above point i
 abbrev pub under_of : (ℕ → ℕ) → (ℕ → ℤ) → ℕ → ℕ → ℕ → Bool
-under_of x y a i b = int_lt (y i *ℤ pos (x b - x a)) (y a *ℤ pos (x b - x i) +ℤ y b *ℤ pos (x i - x a))
+under_of x y a i b = is_below (chord_of x y a b) (x i) (y i)
 
 -- samples rise from point to point, up to the m-th
 abbrev pub IsRising : (ℕ → ℕ) → ℕ → Type 0
@@ -48,10 +54,13 @@ is_top_hidden x y f s q next = nat_le 2 q && (not (f (s (q - 1))) && not (under_
 
 -- the same of points with their levels and marks, and of vertices as a list of numbers of points
 abbrev pub ChainOf : List ℕ → List ℤ → List Bool → List ℕ → ℕ → Type 0
-ChainOf points levels fixed chain count = IsChain (sample_of points) (level_of levels) (is_fixed fixed) (vertex chain) count
+ChainOf points levels fixed chain count = IsChain (sample_of points) (level_of levels) (is_fixed fixed)
+    (vertex chain) count
 
 abbrev pub ReachedFrom : List ℕ → List ℤ → List Bool → List ℕ → ℕ → ℕ → Type 0
-ReachedFrom points levels fixed chain count next = IsReached (sample_of points) (level_of levels) (is_fixed fixed) (vertex chain) count next
+ReachedFrom points levels fixed chain count next = IsReached (sample_of points) (level_of levels) (is_fixed fixed)
+    (vertex chain) count next
 
 abbrev pub hides_top : List ℕ → List ℤ → List Bool → List ℕ → ℕ → ℕ → Bool
-hides_top points levels fixed chain count next = is_top_hidden (sample_of points) (level_of levels) (is_fixed fixed) (vertex chain) count next
+hides_top points levels fixed chain count next = is_top_hidden (sample_of points) (level_of levels) (is_fixed fixed)
+    (vertex chain) count next

@@ -22,7 +22,8 @@ valleys (part ∷ parts) = if is_valley part.left then part.start ∷ valleys pa
 abbrev pub marks : List Part → List Bool → List Bool
 marks [] entries = []
 marks (part ∷ parts) [] = []
-marks (part ∷ parts) (entry ∷ entries) = if is_valley part.left then entry ∷ marks parts entries else marks parts entries
+marks (part ∷ parts) (entry ∷ entries) =
+    if is_valley part.left then entry ∷ marks parts entries else marks parts entries
 
 -- what stands behind the first entry; nothing on a forced baseline
 abbrev pub inner : {X : Type 0} → Bool → List X → List X
@@ -34,7 +35,8 @@ cluster_points cluster = cluster.start ∷ valleys (inner cluster.forced cluster
 
 -- which of the points are fixed: the ends, and the valleys that are covered by a valley event
 abbrev pub fixed_points : Cluster → List Bool → List Bool
-fixed_points cluster covered = true ∷ marks (inner cluster.forced cluster.parts) (inner cluster.forced covered) ++ true ∷ []
+fixed_points cluster covered =
+    true ∷ marks (inner cluster.forced cluster.parts) (inner cluster.forced covered) ++ true ∷ []
 
 -- the nodes of the baseline of a cluster
 abbrev pub cluster_nodes : Signal → Cluster → List Bool → List ℕ

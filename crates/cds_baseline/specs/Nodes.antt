@@ -20,7 +20,8 @@ is_stretch fixed a b = each_below (λ k. not (nat_lt a k && is_fixed fixed k)) b
 -- whether the chord from point a to point b passes above point i, where it is one over i in its stretch
 abbrev pub passes_above : Signal → List ℕ → List Bool → ℕ → ℕ → ℕ → Bool
 passes_above signal points fixed i a b =
-    not (nat_lt i b && is_stretch fixed a b) || is_under signal (sample_of points a) (sample_of points b) (sample_of points i)
+    not (nat_lt i b && is_stretch fixed a b)
+    || is_under signal (sample_of points a) (sample_of points b) (sample_of points i)
 
 -- whether point i is a node: it is fixed, or every chord between two other points of its stretch passes above it
 abbrev pub is_node : Signal → List ℕ → List Bool → ℕ → Bool

@@ -1,11 +1,12 @@
 //! The chain of vertices over points, as it is kept while points are added.
-ghost use Rattle.std.specs.Prelude.{◌≡◌, ◌+◌, ◌-◌, ◌<◌, ◌≤◌, false, IfOk, length, int_lt, pos, ◌*ℤ◌, ◌+ℤ◌};
+ghost use Rattle.std.specs.Prelude.{◌≡◌, ◌+◌, ◌-◌, ◌<◌, ◌≤◌, false, IfOk, length, pos, ◌*ℤ◌};
 ghost use Rattle.std.specs.Vec.{vec_len};
+ghost use Rattle.cds_baseline.specs.Chord.{is_below};
 ghost use Rattle.cds_baseline.specs.Nodes.{sample_of};
 ghost use Rattle.cds_baseline.specs.Chain.{level_of, vertex, under_of, IsRising, IsPoints, ChainOf, ReachedFrom, hides_top};
 
 use cds_base::{Line, NoMemory};
-use cds_trace::level_by_span;
+use cds_trace::{level_by_span, span};
 use std::alloc::Global;
 
 /// The chain over all points: their numbers, in order.
@@ -17,7 +18,8 @@ pub(crate) fn chain_over(
 ) -> Result<Vec<usize>, NoMemory>
     requires points { IsPoints points.now levels.now fixed.now }
     ensures chain { IfOk result (λ c. ChainOf points.now levels.now fixed.now c.items (vec_len c)) }
-    ensures whole { IfOk result (λ c. 0 < length points.now → (0 < vec_len c) × (vertex c.items (vec_len c - 1) + 1 ≡ length points.now)) }
+    ensures whole { IfOk result
+        (λ c. 0 < length points.now → (0 < vec_len c) × (vertex c.items (vec_len c - 1) + 1 ≡ length points.now)) }
 {
     let mut chain = Vec::with_capacity(alloc, points.len())?;
     for next in 0..points.len() {
@@ -35,6 +37,18 @@ struct Point {
     level: i32,
 }
 
+/// The chord from `a` to `b`.
+fn chord_of(a: Point, b: Point) -> Line
+    ensures { result ≡ record { from = a.sample; from_y = a.level; to = b.sample; to_y = b.level } }
+{
+    Line {
+        from: a.sample,
+        from_y: a.level,
+        to: b.sample,
+        to_y: b.level,
+    }
+}
+
 /// A level times a number of samples.
 fn product(level: i32, samples: u32) -> i64
     ensures { result ≡ level *ℤ pos samples }
@@ -42,29 +56,13 @@ fn product(level: i32, samples: u32) -> i64
     i64::from(level) * i64::from(samples)
 }
 
-/// The level at `i` of the chord from `a` to `b`, times the samples from the one to the other.
-fn chord_level(a: Point, i: Point, b: Point) -> i64
-    requires left { a.sample ≤ i.sample }
-    requires right { i.sample ≤ b.sample }
-    ensures { result ≡ a.level *ℤ pos (b.sample - i.sample) +ℤ b.level *ℤ pos (i.sample - a.sample) }
+/// Whether the point lies below the line.
+fn is_below(point: Point, line: Line) -> bool
+    requires left { line.from < point.sample }
+    requires right { point.sample < line.to }
+    ensures { result ≡ is_below line point.sample point.level }
 {
-    let chord = Line {
-        from: a.sample,
-        from_y: a.level,
-        to: b.sample,
-        to_y: b.level,
-    };
-    level_by_span(&chord, i.sample)
-}
-
-/// Whether the chord from `a` to `b` passes above `i`.
-fn is_below(a: Point, i: Point, b: Point) -> bool
-    requires left { a.sample ≤ i.sample }
-    requires right { i.sample ≤ b.sample }
-    ensures { result ≡ int_lt (i.level *ℤ pos (b.sample - a.sample))
-        (a.level *ℤ pos (b.sample - i.sample) +ℤ b.level *ℤ pos (i.sample - a.sample)) }
-{
-    product(i.level, b.sample - a.sample) < chord_level(a, i, b)
+    product(point.level, span(line)) < level_by_span(&line, point.sample)
 }
 
 /// Point `i`.
@@ -92,7 +90,7 @@ fn passes_above(points: &[u32], levels: &[i32], a: usize, i: usize, b: usize) ->
     let first = point_at(points, levels, a);
     let middle = point_at(points, levels, i);
     let last = point_at(points, levels, b);
-    is_below(first, middle, last)
+    is_below(middle, chord_of(first, last))
 }
 
 /// Whether the last of the first `count` vertices of the chain is left out by the chord from the one before it to the

@@ -8,17 +8,19 @@ use Rattle.std.proofs.lemmas.Bool.Decides.{nat_tests}
 use Rattle.std.proofs.lemmas.List.{length-append}
 use Rattle.std.proofs.lemmas.List.Elements.{All-nil, All-push}
 use Rattle.std.proofs.lemmas.Slice.Eq.{bytes_eq-Decides}
-use Rattle.cds_book.specs.Kept.{AreChanges, IsMethod, IsMethodEntry, IsTables, method_versions_in_all}
-use Rattle.cds_book.specs.Plan.{planned, applied, with_method, freeze_planned, counts_of, limit_passed, unless_full, is_latest, Accepts}
+use Rattle.cds_book.specs.Kept.{AreChanges, IsMethod, IsMethodEntry, IsTables, method_versions_in_all, changes_in_all}
+use Rattle.cds_book.specs.Plan.{planned, carried, with_method, freeze_planned, counts_of, limit_passed, unless_full, is_latest, Accepts}
 use Rattle.cds_book.specs.Tables.{NamedMethod, TablesState, method_named, draft_of, texts_of}
-use Rattle.cds_book.specs.declared.command.Command.TheVariants as command
-use Rattle.cds_book.specs.declared.command.Change.TheVariants as change
+use Rattle.cds_sign.specs.declared.command.Command.TheVariants as command
+use Rattle.cds_sign.specs.declared.command.Change.TheVariants as change
 use Rattle.cds_book.specs.declared.command.Plan.TheVariants as plan
 use Rattle.cds_book.specs.declared.error.PlanError.TheVariants.{NoMethod, Number}
-use Rattle.cds_book.specs.declared.limits.TheConstants.{MOST_VERSIONS, MOST_METHODS, MOST_METHOD_VERSIONS}
-use Rattle.cds_base.proofs.NamedLaws.{named-placed, named-All, All-placed, AreRising-placed, sum_by-placed, length-placed, bytes_eq-self}
+use Rattle.cds_book.specs.declared.limits.TheConstants.{MOST_METHODS, MOST_METHOD_VERSIONS}
+use Rattle.cds_sign.specs.declared.limits.TheConstants.{MOST_VERSIONS}
+use Rattle.cds_base.proofs.NamedLaws.{named-placed, named-All, All-placed, AreRising-placed, sum_by-placed, length-placed}
+use Rattle.cds_book.proofs.RaisedLaws.{no_more}
 use Rattle.cds_book.proofs.LookLaws.{draft_of-found, texts_of-found}
-use Rattle.cds_book.proofs.VersionLaws.{AreChanges-push, AreChanges-none, AreWithin, AreWithin-none, unless_full-ok, is_latest-push}
+use Rattle.cds_book.proofs.VersionLaws.{AreChanges-push, AreChanges-none, AreWithin, AreWithin-none, unless_full-ok}
 use mir.Val.{bool_byte}
 
 -- the name of an entry
@@ -26,14 +28,12 @@ abbrev pub method_name : NamedMethod → List ℕ
 method_name e = e.name
 
 -- the tables once a draft is put
-pub applied-draft : (t : TablesState) (name text : List ℕ) → applied t (change.Draft name text) ≡ with_method t name text (texts_of t name)
-unfolding applied
-applied-draft t name text = refl
+pub carried-draft : (t : TablesState) (name text : List ℕ) → carried t (change.Draft name text) ≡ with_method t name text (texts_of t name)
+carried-draft t name text = refl
 
 -- the tables once a draft is frozen
-pub applied-freeze : (t : TablesState) (name : List ℕ) (version : ℕ) (draft : List ℕ) → draft_of t name ≡ Some draft → applied t (change.Freeze name version) ≡ with_method t name draft (texts_of t name ++ draft ∷ [])
-unfolding applied
-applied-freeze t name version draft is = rw is refl
+pub carried-freeze : (t : TablesState) (name : List ℕ) (version : ℕ) (draft : List ℕ) → draft_of t name ≡ Some draft → carried t (change.Freeze name version) ≡ with_method t name draft (texts_of t name ++ draft ∷ [])
+carried-freeze t name version draft is = rw is refl
 
 module _ (t : TablesState) (name draft : List ℕ) (versions : List (List ℕ)) where
   pub method_named-with : method_named (with_method t name draft versions) name ≡ Some (record { name = name; draft = draft; versions = versions })
@@ -123,22 +123,22 @@ module _ (t : TablesState) (name text asked : List ℕ) (asks : asked ≡ text) 
   unfolding planned
   planned-same_draft same = rw (is_draft_of true same) refl
 
-  pub planned-other_draft : (counts : List (ℕ × ℕ)) (limit : Option ℕ) → false ≡ option_map_or (λ d. bytes_eq d asked) draft false → counts ≡ counts_of (change.Draft name text) (applied t (change.Draft name text)) → limit ≡ limit_passed counts → planned t (command.Draft name text) ≡ unless_full limit (change.Draft name text)
+  pub planned-other_draft : (counts : List (ℕ × ℕ)) (limit : Option ℕ) → false ≡ option_map_or (λ d. bytes_eq d asked) draft false → counts ≡ counts_of (change.Draft name text) (carried t (change.Draft name text)) → limit ≡ limit_passed counts → planned t (command.Draft name text) ≡ unless_full limit (change.Draft name text)
   unfolding planned
   planned-other_draft counts limit other raised least = rw (is_draft_of false other, least, raised) refl
 
 -- the count that a draft raises
-pub counts-draft : (t : TablesState) → IsTables t → (name text : List ℕ) → counts_of (change.Draft name text) (applied t (change.Draft name text)) ≡ (length t.methods + bool_byte (is_none (draft_of t name)), MOST_METHODS) ∷ []
-counts-draft t kept name text = rw (applied-draft t name text, methods-with t kept name text (texts_of t name)) refl
+pub counts-draft : (t : TablesState) → IsTables t → (name text : List ℕ) → counts_of (change.Draft name text) (carried t (change.Draft name text)) ≡ (length t.methods + bool_byte (is_none (draft_of t name)), MOST_METHODS) ∷ []
+counts-draft t kept name text = rw (methods-with t kept name text (texts_of t name)) refl
 
 -- all rules are kept when an accepted draft is put
-pub IsTables-draft : (t : TablesState) (name text : List ℕ) → IsTables t → Accepts t (change.Draft name text) → IsTables (applied t (change.Draft name text))
+pub IsTables-draft : (t : TablesState) (name text : List ℕ) → IsTables t → Accepts t (change.Draft name text) → IsTables (carried t (change.Draft name text))
 IsTables-draft t name text kept accepts =
     let versions = texts_of t name in
     let entry : NamedMethod = record { name = name; draft = text; versions = versions } in
     let after = with_method t name text versions in
-    let is : applied t (change.Draft name text) ≡ after = applied-draft t name text in
-    let counts = counts_of (change.Draft name text) (applied t (change.Draft name text)) in
+    let is : carried t (change.Draft name text) ≡ after = carried-draft t name text in
+    let counts = counts_of (change.Draft name text) (carried t (change.Draft name text)) in
     let few : length after.methods ≤ MOST_METHODS = elim (cases_Bool (option_map_or (λ d. bytes_eq d text) (draft_of t name) false)) [
       | inl same ↦
           let unchanged : planned t (command.Draft name text) ≡ Ok plan.Unchanged = planned-same_draft t name text text refl _ refl (sym same) in
@@ -150,7 +150,7 @@ IsTables-draft t name text kept accepts =
           subst (λ (s : TablesState). length s.methods ≤ MOST_METHODS) is within.0
     ] in
     let kept_entry : IsMethodEntry entry = record {
-      draft = accepts.command;
+      draft = accepts.command.1;
       versions = All-texts t kept name;
       few = few_texts t kept name;
       changes = AreChanges-texts t kept name;
@@ -164,13 +164,10 @@ IsTables-draft t name text kept accepts =
         few = few;
         few_versions = let most = kept.methods.few_versions in omega (arith, same, most);
       };
+      sequences = kept.sequences;
+      bases = no_more (changes_in_all t) (changes_in_all after) t.sequences (omega (arith, same)) kept.bases;
     } in
     subst IsTables (sym is) all
-
--- a draft that was put is the draft: putting it again changes nothing
-pub planned-draft_again : (t : TablesState) (name text : List ℕ) → planned (applied t (change.Draft name text)) (command.Draft name text) ≡ Ok plan.Unchanged
-planned-draft_again t name text =
-    rw (applied-draft t name text) (planned-same_draft (with_method t name text (texts_of t name)) name text text refl (Some text) (sym (draft_of-with t name text (texts_of t name))) (sym (bytes_eq-self text)))
 
 -- what a freeze is answered, by the draft and the texts that are there and by the counts that it raises
 module _ (t : TablesState) (name : List ℕ) (version : ℕ) where
@@ -198,19 +195,19 @@ module _ (t : TablesState) (name : List ℕ) (version : ℕ) where
         freeze_answer ∙ rw (is_latest-texts false other, number) (ap (λ n. Err (Number n)) (sym here))
 
     -- and is then judged by the limits
-    pub planned-next_number : (counts : List (ℕ × ℕ)) (limit : Option ℕ) → false ≡ is_latest bytes_eq texts draft → version ≡ length texts + 1 → counts ≡ counts_of (change.Freeze name version) (applied t (change.Freeze name version)) → limit ≡ limit_passed counts → planned t (command.Freeze name version) ≡ unless_full limit (change.Freeze name version)
+    pub planned-next_number : (counts : List (ℕ × ℕ)) (limit : Option ℕ) → false ≡ is_latest bytes_eq texts draft → version ≡ length texts + 1 → counts ≡ counts_of (change.Freeze name version) (carried t (change.Freeze name version)) → limit ≡ limit_passed counts → planned t (command.Freeze name version) ≡ unless_full limit (change.Freeze name version)
     planned-next_number counts limit other next raised least =
         let here : version ≡ length (texts_of t name) + 1 = next ∙ ap (λ (ts : List (List ℕ)). length ts + 1) are in
         let number : (version == length (texts_of t name) + 1) ≡ true = grind (arith, nat_tests) in
         freeze_answer ∙ rw (is_latest-texts false other, number, least, raised) refl
 
 -- the counts that a freeze raises
-pub counts-freeze : (t : TablesState) → IsTables t → (name : List ℕ) (version : ℕ) (draft : List ℕ) → draft_of t name ≡ Some draft → counts_of (change.Freeze name version) (applied t (change.Freeze name version)) ≡ (length (texts_of t name) + 1, MOST_VERSIONS) ∷ (method_versions_in_all t.methods + 1, MOST_METHOD_VERSIONS) ∷ []
+pub counts-freeze : (t : TablesState) → IsTables t → (name : List ℕ) (version : ℕ) (draft : List ℕ) → draft_of t name ≡ Some draft → counts_of (change.Freeze name version) (carried t (change.Freeze name version)) ≡ (length (texts_of t name) + 1, MOST_VERSIONS) ∷ (method_versions_in_all t.methods + 1, MOST_METHOD_VERSIONS) ∷ []
 counts-freeze t kept name version draft is =
     let texts = texts_of t name ++ draft ∷ [] in
     let grown : length texts ≡ length (texts_of t name) + 1 = length-append (texts_of t name) (draft ∷ []) in
     let same : length (texts_of (with_method t name draft texts) name) ≡ length (texts_of t name) + 1 = ap length (texts_of-with t name draft texts) ∙ grown in
-    rw (applied-freeze t name version draft is, same, method_versions-with t kept name draft texts 1 grown) refl
+    rw (carried-freeze t name version draft is, same, method_versions-with t kept name draft texts 1 grown) refl
 
 -- what an accepted freeze is: of a draft that isn't the latest version, under the next number, and its counts are
 -- within the limits
@@ -219,7 +216,7 @@ pub record IsNewText (t : TablesState) (name : List ℕ) (version : ℕ) : Type 
   pub is : draft_of t name ≡ Some draft
   pub other : is_latest bytes_eq (texts_of t name) draft ≡ false
   pub next : version ≡ length (texts_of t name) + 1
-  pub within : AreWithin (counts_of (change.Freeze name version) (applied t (change.Freeze name version)))
+  pub within : AreWithin (counts_of (change.Freeze name version) (carried t (change.Freeze name version)))
 
 pub IsNewText-accepted : (t : TablesState) (name : List ℕ) (version : ℕ) → Accepts t (change.Freeze name version) → IsNewText t name version
 IsNewText-accepted t name version accepts = by_draft (draft_of t name) refl
@@ -230,7 +227,7 @@ IsNewText-accepted t name version accepts = by_draft (draft_of t name) refl
         let contrary : Err (Number (length (texts_of t name) + 1)) ≡ Ok (plan.Change (change.Freeze name version)) = sym refused ∙ accepts.accepted in
         cc
     judged draft is other (inl next) =
-        let counts = counts_of (change.Freeze name version) (applied t (change.Freeze name version)) in
+        let counts = counts_of (change.Freeze name version) (carried t (change.Freeze name version)) in
         let answer = planned-next_number t name version draft (sym is) (texts_of t name) refl counts _ (sym other) next refl refl in
         record {
           draft = draft;
@@ -254,13 +251,13 @@ IsNewText-accepted t name version accepts = by_draft (draft_of t name) refl
     ]
 
 -- all rules are kept when an accepted freeze is carried out
-pub IsTables-freeze : (t : TablesState) (name : List ℕ) (version : ℕ) → IsTables t → Accepts t (change.Freeze name version) → IsTables (applied t (change.Freeze name version))
+pub IsTables-freeze : (t : TablesState) (name : List ℕ) (version : ℕ) → IsTables t → Accepts t (change.Freeze name version) → IsTables (carried t (change.Freeze name version))
 IsTables-freeze t name version kept accepts =
     let new = IsNewText-accepted t name version accepts in
     let texts = texts_of t name ++ new.draft ∷ [] in
     let entry : NamedMethod = record { name = name; draft = new.draft; versions = texts } in
     let after = with_method t name new.draft texts in
-    let is : applied t (change.Freeze name version) ≡ after = applied-freeze t name version new.draft new.is in
+    let is : carried t (change.Freeze name version) ≡ after = carried-freeze t name version new.draft new.is in
     let within : AreWithin (counts_of (change.Freeze name version) after) = subst (λ s. AreWithin (counts_of (change.Freeze name version) s)) is new.within in
     let method : IsMethod new.draft = IsMethod-draft t kept name new.draft new.is in
     let kept_entry : IsMethodEntry entry = record {
@@ -279,13 +276,7 @@ IsTables-freeze t name version kept accepts =
         few = let most = kept.methods.few in omega (arith, many, there, most);
         few_versions = within.1.0;
       };
+      sequences = kept.sequences;
+      bases = let more = method_versions-with t kept name new.draft texts 1 (length-append (texts_of t name) (new.draft ∷ [])) in no_more (changes_in_all t) (changes_in_all after) t.sequences (omega (arith, more)) kept.bases;
     } in
     subst IsTables (sym is) all
-
--- a draft that was frozen is the latest version: freezing it again changes nothing, whatever number is named
-pub planned-freeze_again : (t : TablesState) (name : List ℕ) (version again : ℕ) (draft : List ℕ) → draft_of t name ≡ Some draft → planned (applied t (change.Freeze name version)) (command.Freeze name again) ≡ Ok plan.Unchanged
-planned-freeze_again t name version again draft is =
-    let texts = texts_of t name ++ draft ∷ [] in
-    let after = with_method t name draft texts in
-    rw (applied-freeze t name version draft is)
-    (planned-latest_text after name again draft (sym (draft_of-with t name draft texts)) texts (sym (texts_of-with t name draft texts)) (sym (is_latest-push bytes_eq bytes_eq-Decides (texts_of t name) draft)))

@@ -5,15 +5,16 @@ use Rattle.std.specs.Str.{bytes_eq}
 use Rattle.std.proofs.lemmas.Bool.{cases_Bool}
 use Rattle.std.proofs.lemmas.Slice.Eq.{bytes_eq-Decides}
 use Rattle.cds_trace.specs.Signal.{Signal}
-use Rattle.cds_book.specs.Plan.{applied, with_signals, with_method, with_frozen, trace_changed, method_changed}
+use Rattle.cds_book.specs.Plan.{carried, with_signals, with_method, with_frozen, trace_changed, method_changed}
 use Rattle.cds_book.specs.Tables.{NamedTraces, NamedMethod, TablesState, method_named, signals_of, draft_of, texts_of}
-use Rattle.cds_book.specs.declared.command.Change.{Change}
-use Rattle.cds_book.specs.declared.command.Change.TheVariants as change
+use Rattle.cds_sign.specs.declared.command.Change.{Change}
+use Rattle.cds_sign.specs.declared.command.Change.TheVariants as change
 use Rattle.cds_base.specs.Named.{named}
 use Rattle.cds_base.proofs.NamedLaws.{named-placed_other}
 use Rattle.cds_book.proofs.LookLaws.{signals_of-found, draft_of-found, texts_of-found}
 use Rattle.cds_book.proofs.TraceLaws.{trace_name}
 use Rattle.cds_book.proofs.MethodLaws.{method_name}
+use Rattle.cds_book.proofs.StayLaws.{leaves-sequence, leaves-events, leaves-rebind, leaves-sign}
 
 -- names that are two don't pass the test
 bytes_eq-other : (put name : List ℕ) → name ≢ put → bytes_eq put name ≡ false
@@ -67,15 +68,21 @@ differs-some : (put name : List ℕ) → Some name ≢ Some put → name ≢ put
 differs-some put name differs = λ same. differs (ap Some same)
 
 -- a change leaves the versions of each trace that it doesn't change
-pub other_traces : (t : TablesState) (c : Change) (name : List ℕ) → Some name ≢ trace_changed c → signals_of (applied t c) name ≡ signals_of t name
-unfolding applied
+pub other_traces : (t : TablesState) (c : Change) (name : List ℕ) → Some name ≢ trace_changed c → signals_of (carried t c) name ≡ signals_of t name
 other_traces t (change.Trace put signal) name differs = signals_of-other t put name (signals_of t put ++ signal ∷ []) (differs-some put name differs)
 other_traces t (change.Draft put text) name differs = signals_of-same (with_method t put text (texts_of t put)) t name refl
 other_traces t (change.Freeze put version) name differs = signals_of-same (with_frozen t put (draft_of t put)) t name (traces-frozen t put (draft_of t put))
+other_traces t (change.Sequence put edition method bound standards rows) name differs = signals_of-same (carried t (change.Sequence put edition method bound standards rows)) t name (leaves-sequence t put edition method bound standards rows).0
+other_traces t (change.Events put edition n events) name differs = signals_of-same (carried t (change.Events put edition n events)) t name (leaves-events t put edition n events).0
+other_traces t (change.Rebind put edition bound) name differs = signals_of-same (carried t (change.Rebind put edition bound)) t name (leaves-rebind t put edition bound).0
+other_traces t (change.Sign sequence k basis moment put meaning says) name differs = signals_of-same (carried t (change.Sign sequence k basis moment put meaning says)) t name (leaves-sign t sequence k basis moment put meaning says).0
 
 -- and the draft and the versions of each method that it doesn't change
-pub other_methods : (t : TablesState) (c : Change) (name : List ℕ) → Some name ≢ method_changed c → AreSameTexts (applied t c) t name
-unfolding applied
+pub other_methods : (t : TablesState) (c : Change) (name : List ℕ) → Some name ≢ method_changed c → AreSameTexts (carried t c) t name
 other_methods t (change.Trace put signal) name differs = texts-same (with_signals t put (signals_of t put ++ signal ∷ [])) t name refl
 other_methods t (change.Draft put text) name differs = texts-other t put name text (texts_of t put) (differs-some put name differs)
 other_methods t (change.Freeze put version) name differs = texts-frozen t put name (draft_of t put) (differs-some put name differs)
+other_methods t (change.Sequence put edition method bound standards rows) name differs = texts-same (carried t (change.Sequence put edition method bound standards rows)) t name (leaves-sequence t put edition method bound standards rows).1
+other_methods t (change.Events put edition n events) name differs = texts-same (carried t (change.Events put edition n events)) t name (leaves-events t put edition n events).1
+other_methods t (change.Rebind put edition bound) name differs = texts-same (carried t (change.Rebind put edition bound)) t name (leaves-rebind t put edition bound).1
+other_methods t (change.Sign sequence k basis moment put meaning says) name differs = texts-same (carried t (change.Sign sequence k basis moment put meaning says)) t name (leaves-sign t sequence k basis moment put meaning says).1

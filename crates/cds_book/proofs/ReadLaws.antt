@@ -3,19 +3,19 @@ use Rattle.std.proofs.Common.{◌≡◌, ◌∙◌, ℕ, ◌+◌, ◌-◌, ◌==
 use Rattle.std.proofs.lemmas.Bool.Decides.{nat_tests}
 use Rattle.std.proofs.lemmas.List.{length-append}
 use Rattle.cds_trace.specs.Signal.{Signal}
-use Rattle.cds_book.specs.Plan.{applied, with_signals, with_method, Accepts}
+use Rattle.cds_book.specs.Plan.{carried, with_signals, with_method, Accepts}
 use Rattle.cds_book.specs.Tables.{NamedTraces, TablesState, numbered, trace_of, trace_versions_of, signals_of, draft_of, method_of, texts_of}
-use Rattle.cds_book.specs.declared.command.Change.TheVariants as change
+use Rattle.cds_sign.specs.declared.command.Change.TheVariants as change
 use Rattle.cds_base.proofs.NamedLaws.{named-placed}
 use Rattle.cds_book.proofs.LookLaws.{trace_of-found, method_of-found}
 use Rattle.cds_book.proofs.VersionLaws.{latest-push}
-use Rattle.cds_book.proofs.TraceLaws.{trace_name, applied-trace}
-use Rattle.cds_book.proofs.MethodLaws.{method_named-with, draft_of-with, applied-draft, applied-freeze, IsNewText-accepted}
+use Rattle.cds_book.proofs.TraceLaws.{trace_name, carried-trace}
+use Rattle.cds_book.proofs.MethodLaws.{method_named-with, draft_of-with, carried-draft, carried-freeze, IsNewText-accepted}
 use Rattle.cds_book.proofs.StayLaws.{trace_versions_of-signals}
 
 -- a draft that was put is read back
-pub draft_of-applied : (t : TablesState) (name text : List ℕ) → draft_of (applied t (change.Draft name text)) name ≡ Some text
-draft_of-applied t name text = rw (applied-draft t name text) (draft_of-with t name text (texts_of t name))
+pub draft_of-carried : (t : TablesState) (name text : List ℕ) → draft_of (carried t (change.Draft name text)) name ≡ Some text
+draft_of-carried t name text = rw (carried-draft t name text) (draft_of-with t name text (texts_of t name))
 
 -- a further version has the next number
 numbered-push : {X : Type 0} (versions : List X) (x : X) → numbered (versions ++ x ∷ []) (length versions + 1) ≡ Some x
@@ -25,19 +25,19 @@ numbered-push versions x =
     rw some (subst (λ n. slice_get (versions ++ x ∷ []) n ≡ Some x) at (latest-push versions x))
 
 -- a trace that was put is read back under the next number of its name
-pub trace_of-applied : (t : TablesState) (name : List ℕ) (signal : Signal) → trace_of (applied t (change.Trace name signal)) name (unwrap_or (trace_versions_of t name) 0 + 1) ≡ Some signal
-trace_of-applied t name signal =
+pub trace_of-carried : (t : TablesState) (name : List ℕ) (signal : Signal) → trace_of (carried t (change.Trace name signal)) name (unwrap_or (trace_versions_of t name) 0 + 1) ≡ Some signal
+trace_of-carried t name signal =
     let versions = signals_of t name ++ signal ∷ [] in
     let entry : NamedTraces = record { name = name; versions = versions } in
     let next : unwrap_or (trace_versions_of t name) 0 + 1 ≡ length (signals_of t name) + 1 = ap (λ n. n + 1) (trace_versions_of-signals t name) in
     let found = trace_of-found (with_signals t name versions) name (Some entry) (named-placed trace_name t.traces entry) (length (signals_of t name) + 1) in
-    rw (applied-trace t name signal, next) (found ∙ numbered-push (signals_of t name) signal)
+    rw (carried-trace t name signal, next) (found ∙ numbered-push (signals_of t name) signal)
 
 -- a draft that was frozen is read back under the number that was named
-pub method_of-applied : (t : TablesState) (name : List ℕ) (version : ℕ) → Accepts t (change.Freeze name version) → method_of (applied t (change.Freeze name version)) name version ≡ draft_of t name
-method_of-applied t name version accepts =
+pub method_of-carried : (t : TablesState) (name : List ℕ) (version : ℕ) → Accepts t (change.Freeze name version) → method_of (carried t (change.Freeze name version)) name version ≡ draft_of t name
+method_of-carried t name version accepts =
     let new = IsNewText-accepted t name version accepts in
     let texts = texts_of t name ++ new.draft ∷ [] in
     let found = method_of-found (with_method t name new.draft texts) name _ (method_named-with t name new.draft texts) version in
     let here : numbered texts version ≡ Some new.draft = subst (λ n. numbered texts n ≡ Some new.draft) (sym new.next) (numbered-push (texts_of t name) new.draft) in
-    rw (applied-freeze t name version new.draft new.is) (found ∙ here ∙ sym new.is)
+    rw (carried-freeze t name version new.draft new.is) (found ∙ here ∙ sym new.is)

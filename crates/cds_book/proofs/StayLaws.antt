@@ -8,14 +8,19 @@ use Rattle.std.proofs.lemmas.Option.{slice_get-get_or, slice_get_within}
 use Rattle.std.proofs.lemmas.Slice.Eq.{bytes_eq-Decides}
 use Rattle.cds_trace.specs.Signal.{Signal}
 use Rattle.cds_base.specs.Named.{named}
-use Rattle.cds_book.specs.Plan.{applied, with_signals, with_method, with_frozen, Accepts}
-use Rattle.cds_book.specs.Tables.{NamedTraces, NamedMethod, TablesState, numbered, traces_named, method_named, trace_of, trace_versions_of, signals_of, draft_of, method_of, method_versions_of, texts_of}
-use Rattle.cds_book.specs.declared.command.Change.{Change}
-use Rattle.cds_book.specs.declared.command.Change.TheVariants as change
+use Rattle.cds_book.specs.Plan.{carried, with_signals, with_method, with_frozen, with_changed, with_signature, signature, Accepts}
+use Rattle.cds_book.specs.Tables.{NamedTraces, NamedMethod, TablesState, numbered, traces_named, method_named, trace_of, trace_versions_of, signals_of, draft_of, method_of, method_versions_of, texts_of, sequence_of}
+use Rattle.cds_base.specs.declared.event.Event.{Event}
+use Rattle.cds_sign.specs.declared.command.Change.{Change}
+use Rattle.cds_sign.specs.declared.inputs.Inputs.{Inputs}
+use Rattle.cds_sign.specs.declared.row.Row.{Row}
+use Rattle.cds_sign.specs.declared.sequence.Sequence.{Sequence}
+use Rattle.cds_sign.specs.declared.signed.Signed.{Signed}
+use Rattle.cds_sign.specs.declared.command.Change.TheVariants as change
 use Rattle.cds_base.proofs.NamedLaws.{named-placed, named-placed_other}
 use Rattle.cds_book.proofs.LookLaws.{trace_of-found, trace_versions_of-found, method_of-found, method_versions_of-found}
-use Rattle.cds_book.proofs.TraceLaws.{trace_name, applied-trace}
-use Rattle.cds_book.proofs.MethodLaws.{method_name, method_named-with, applied-draft, applied-freeze, IsNewText-accepted}
+use Rattle.cds_book.proofs.TraceLaws.{trace_name, carried-trace}
+use Rattle.cds_book.proofs.MethodLaws.{method_name, method_named-with, carried-draft, carried-freeze, IsNewText-accepted}
 
 -- an item of a list with more behind it
 slice_get-append : {X : Type 0} (xs ys : List X) (i : ℕ) (x : X) → slice_get xs i ≡ Some x → slice_get (xs ++ ys) i ≡ Some x
@@ -94,35 +99,74 @@ unfolding method_of
 methods-same s t name version same = ap (λ (es : List NamedMethod). option_and_then (λ (e : NamedMethod). numbered e.versions version) (named method_name es name)) same
 
 -- a freeze without a draft leaves the methods
-methods-no_draft : (t : TablesState) (name : List ℕ) (version : ℕ) → draft_of t name ≡ None → (applied t (change.Freeze name version)).methods ≡ t.methods
-unfolding applied
+methods-no_draft : (t : TablesState) (name : List ℕ) (version : ℕ) → draft_of t name ≡ None → (carried t (change.Freeze name version)).methods ≡ t.methods
 methods-no_draft t name version none = ap (λ (o : Option (List ℕ)). (with_frozen t name o).methods) none
 
 -- a freeze leaves the traces
-traces-freeze : (t : TablesState) (name : List ℕ) (version : ℕ) → (applied t (change.Freeze name version)).traces ≡ t.traces
-unfolding applied
+traces-freeze : (t : TablesState) (name : List ℕ) (version : ℕ) → (carried t (change.Freeze name version)).traces ≡ t.traces
 traces-freeze t name version = by_draft (draft_of t name)
   where
     by_draft : (draft : Option (List ℕ)) → (with_frozen t name draft).traces ≡ t.traces
     by_draft None = refl
     by_draft (Some draft) = refl
 
+-- a sequence that is put or signed leaves the traces and the methods
+changed-traces : (t : TablesState) (name : List ℕ) (made : Option Sequence) → (with_changed t name made).traces ≡ t.traces
+changed-traces t name None = refl
+changed-traces t name (Some s) = refl
+
+changed-methods : (t : TablesState) (name : List ℕ) (made : Option Sequence) → (with_changed t name made).methods ≡ t.methods
+changed-methods t name None = refl
+changed-methods t name (Some s) = refl
+
+signed-traces : (t : TablesState) (name : List ℕ) (f : Inputs → Signed) (s : Option Sequence) → (with_signature t name f s).traces ≡ t.traces
+signed-traces t name f None = refl
+signed-traces t name f (Some s) = refl
+
+signed-methods : (t : TablesState) (name : List ℕ) (f : Inputs → Signed) (s : Option Sequence) → (with_signature t name f s).methods ≡ t.methods
+signed-methods t name f None = refl
+signed-methods t name f (Some s) = refl
+
+-- a change of sequences or of signatures
+abbrev pub LeavesVersions : TablesState → Change → Type 0
+LeavesVersions t c = ((carried t c).traces ≡ t.traces) × ((carried t c).methods ≡ t.methods)
+
+pub leaves-sequence : (t : TablesState) (name : List ℕ) (edition : ℕ) (method : List ℕ) (version : ℕ) (standards : List (List ℕ)) (rows : List Row) → LeavesVersions t (change.Sequence name edition method version standards rows)
+leaves-sequence t name edition method version standards rows = (changed-traces t name _, changed-methods t name _)
+
+pub leaves-events : (t : TablesState) (name : List ℕ) (edition row : ℕ) (events : List Event) → LeavesVersions t (change.Events name edition row events)
+leaves-events t name edition row events = (changed-traces t name _, changed-methods t name _)
+
+pub leaves-rebind : (t : TablesState) (name : List ℕ) (edition version : ℕ) → LeavesVersions t (change.Rebind name edition version)
+leaves-rebind t name edition version = (changed-traces t name _, changed-methods t name _)
+
+pub leaves-sign : (t : TablesState) (sequence : List ℕ) (number basis moment : ℕ) (name meaning text : List ℕ) → LeavesVersions t (change.Sign sequence number basis moment name meaning text)
+leaves-sign t sequence number basis moment name meaning text = (signed-traces t sequence (signature number basis moment name meaning text) (sequence_of t sequence), signed-methods t sequence (signature number basis moment name meaning text) (sequence_of t sequence))
+
 -- whatever is changed, each version of a trace stays
-pub trace_of-stays : (t : TablesState) (c : Change) (name : List ℕ) (version : ℕ) (signal : Signal) → trace_of t name version ≡ Some signal → trace_of (applied t c) name version ≡ Some signal
-trace_of-stays t (change.Trace put more) name version signal is = rw (applied-trace t put more) (trace_of-with t put name (more ∷ []) version signal is)
-trace_of-stays t (change.Draft put text) name version signal is = rw (applied-draft t put text) (traces-same (with_method t put text (texts_of t put)) t name version refl ∙ is)
-trace_of-stays t (change.Freeze put number) name version signal is = traces-same (applied t (change.Freeze put number)) t name version (traces-freeze t put number) ∙ is
+pub trace_of-stays : (t : TablesState) (c : Change) (name : List ℕ) (version : ℕ) (signal : Signal) → trace_of t name version ≡ Some signal → trace_of (carried t c) name version ≡ Some signal
+trace_of-stays t (change.Trace put more) name version signal is = rw (carried-trace t put more) (trace_of-with t put name (more ∷ []) version signal is)
+trace_of-stays t (change.Draft put text) name version signal is = rw (carried-draft t put text) (traces-same (with_method t put text (texts_of t put)) t name version refl ∙ is)
+trace_of-stays t (change.Freeze put number) name version signal is = traces-same (carried t (change.Freeze put number)) t name version (traces-freeze t put number) ∙ is
+trace_of-stays t (change.Sequence put edition method bound standards rows) name version signal is = traces-same (carried t (change.Sequence put edition method bound standards rows)) t name version (leaves-sequence t put edition method bound standards rows).0 ∙ is
+trace_of-stays t (change.Events put edition n events) name version signal is = traces-same (carried t (change.Events put edition n events)) t name version (leaves-events t put edition n events).0 ∙ is
+trace_of-stays t (change.Rebind put edition bound) name version signal is = traces-same (carried t (change.Rebind put edition bound)) t name version (leaves-rebind t put edition bound).0 ∙ is
+trace_of-stays t (change.Sign sequence k basis moment put meaning says) name version signal is = traces-same (carried t (change.Sign sequence k basis moment put meaning says)) t name version (leaves-sign t sequence k basis moment put meaning says).0 ∙ is
 
 -- whatever is changed, each version of a method stays
-pub method_of-stays : (t : TablesState) (c : Change) (name : List ℕ) (version : ℕ) (text : List ℕ) → method_of t name version ≡ Some text → method_of (applied t c) name version ≡ Some text
-method_of-stays t (change.Trace put more) name version text is = rw (applied-trace t put more) (methods-same (with_signals t put (signals_of t put ++ more ∷ [])) t name version refl ∙ is)
+pub method_of-stays : (t : TablesState) (c : Change) (name : List ℕ) (version : ℕ) (text : List ℕ) → method_of t name version ≡ Some text → method_of (carried t c) name version ≡ Some text
+method_of-stays t (change.Trace put more) name version text is = rw (carried-trace t put more) (methods-same (with_signals t put (signals_of t put ++ more ∷ [])) t name version refl ∙ is)
 method_of-stays t (change.Draft put draft) name version text is =
-    rw (applied-draft t put draft) (subst (λ (ts : List (List ℕ)). method_of (with_method t put draft ts) name version ≡ Some text) (append-nil (texts_of t put)) (method_of-with t put draft name [] version text is))
+    rw (carried-draft t put draft) (subst (λ (ts : List (List ℕ)). method_of (with_method t put draft ts) name version ≡ Some text) (append-nil (texts_of t put)) (method_of-with t put draft name [] version text is))
+method_of-stays t (change.Sequence put edition method bound standards rows) name version text is = methods-same (carried t (change.Sequence put edition method bound standards rows)) t name version (leaves-sequence t put edition method bound standards rows).1 ∙ is
+method_of-stays t (change.Events put edition n events) name version text is = methods-same (carried t (change.Events put edition n events)) t name version (leaves-events t put edition n events).1 ∙ is
+method_of-stays t (change.Rebind put edition bound) name version text is = methods-same (carried t (change.Rebind put edition bound)) t name version (leaves-rebind t put edition bound).1 ∙ is
+method_of-stays t (change.Sign sequence k basis moment put meaning says) name version text is = methods-same (carried t (change.Sign sequence k basis moment put meaning says)) t name version (leaves-sign t sequence k basis moment put meaning says).1 ∙ is
 method_of-stays t (change.Freeze put number) name version text is = by_draft (draft_of t put) refl
   where
-    by_draft : (draft : Option (List ℕ)) → draft_of t put ≡ draft → method_of (applied t (change.Freeze put number)) name version ≡ Some text
-    by_draft None none = methods-same (applied t (change.Freeze put number)) t name version (methods-no_draft t put number none) ∙ is
-    by_draft (Some draft) there = rw (applied-freeze t put number draft there) (method_of-with t put draft name (draft ∷ []) version text is)
+    by_draft : (draft : Option (List ℕ)) → draft_of t put ≡ draft → method_of (carried t (change.Freeze put number)) name version ≡ Some text
+    by_draft None none = methods-same (carried t (change.Freeze put number)) t name version (methods-no_draft t put number none) ∙ is
+    by_draft (Some draft) there = rw (carried-freeze t put number draft there) (method_of-with t put draft name (draft ∷ []) version text is)
 
 -- how many versions a name has is how many versions there are
 pub trace_versions_of-signals : (t : TablesState) (name : List ℕ) → unwrap_or (trace_versions_of t name) 0 ≡ length (signals_of t name)
@@ -134,19 +178,19 @@ trace_versions_of-signals t name = by_found (traces_named t name)
     by_found (Some e) = refl
 
 -- a trace is put as the next version of its name
-pub trace_versions_of-applied : (t : TablesState) (name : List ℕ) (signal : Signal) → trace_versions_of (applied t (change.Trace name signal)) name ≡ Some (unwrap_or (trace_versions_of t name) 0 + 1)
-trace_versions_of-applied t name signal =
+pub trace_versions_of-carried : (t : TablesState) (name : List ℕ) (signal : Signal) → trace_versions_of (carried t (change.Trace name signal)) name ≡ Some (unwrap_or (trace_versions_of t name) 0 + 1)
+trace_versions_of-carried t name signal =
     let versions = signals_of t name ++ signal ∷ [] in
     let entry : NamedTraces = record { name = name; versions = versions } in
     let found = trace_versions_of-found (with_signals t name versions) name (Some entry) (named-placed trace_name t.traces entry) in
     let grown : length versions ≡ unwrap_or (trace_versions_of t name) 0 + 1 = length-append (signals_of t name) (signal ∷ []) ∙ ap (λ n. n + 1) (sym (trace_versions_of-signals t name)) in
-    rw (applied-trace t name signal) (found ∙ ap Some grown)
+    rw (carried-trace t name signal) (found ∙ ap Some grown)
 
 -- a draft is frozen as the version of the number that was named
-pub method_versions_of-applied : (t : TablesState) (name : List ℕ) (version : ℕ) → Accepts t (change.Freeze name version) → method_versions_of (applied t (change.Freeze name version)) name ≡ Some version
-method_versions_of-applied t name version accepts =
+pub method_versions_of-carried : (t : TablesState) (name : List ℕ) (version : ℕ) → Accepts t (change.Freeze name version) → method_versions_of (carried t (change.Freeze name version)) name ≡ Some version
+method_versions_of-carried t name version accepts =
     let new = IsNewText-accepted t name version accepts in
     let versions = texts_of t name ++ new.draft ∷ [] in
     let found = method_versions_of-found (with_method t name new.draft versions) name _ (method_named-with t name new.draft versions) in
     let grown : length versions ≡ version = length-append (texts_of t name) (new.draft ∷ []) ∙ sym new.next in
-    rw (applied-freeze t name version new.draft new.is) (found ∙ ap Some grown)
+    rw (carried-freeze t name version new.draft new.is) (found ∙ ap Some grown)

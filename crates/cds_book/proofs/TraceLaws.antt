@@ -6,21 +6,22 @@ use Rattle.std.proofs.lemmas.Bool.{cases_Bool}
 use Rattle.std.proofs.lemmas.List.{length-append}
 use Rattle.std.proofs.lemmas.List.Sums.{sum_by-append}
 use Rattle.cds_trace.specs.Signal.{Signal}
-use Rattle.cds_book.specs.Kept.{AreChanges, IsTraceEntry, IsTables, trace_versions_in_all, samples_in_all}
-use Rattle.cds_book.specs.Plan.{planned, applied, with_signals, counts_of, limit_passed, unless_full, same_signal, is_latest, Accepts}
+use Rattle.cds_book.specs.Kept.{AreChanges, IsTraceEntry, IsTables, trace_versions_in_all, samples_in_all, changes_in_all}
+use Rattle.cds_book.specs.Plan.{planned, carried, with_signals, counts_of, limit_passed, unless_full, same_signal, is_latest, Accepts}
 use Rattle.cds_book.specs.Tables.{NamedTraces, TablesState, traces_named, signals_of}
-use Rattle.cds_book.specs.declared.command.Command.TheVariants as command
-use Rattle.cds_book.specs.declared.command.Change.TheVariants as change
+use Rattle.cds_sign.specs.declared.command.Command.TheVariants as command
+use Rattle.cds_sign.specs.declared.command.Change.TheVariants as change
 use Rattle.cds_book.specs.declared.command.Plan.TheVariants as plan
-use Rattle.cds_book.specs.declared.limits.TheConstants.{MOST_TRACE_NAMES, MOST_VERSIONS, MOST_TRACE_VERSIONS, MOST_SAMPLES_IN_ALL}
+use Rattle.cds_book.specs.declared.limits.TheConstants.{MOST_TRACE_NAMES, MOST_TRACE_VERSIONS, MOST_SAMPLES_IN_ALL}
+use Rattle.cds_sign.specs.declared.limits.TheConstants.{MOST_VERSIONS}
 use Rattle.cds_base.proofs.NamedLaws.{named-placed, named-All, All-placed, AreRising-placed, sum_by-placed, length-placed}
 use Rattle.cds_book.proofs.LookLaws.{signals_of-found}
-use Rattle.cds_book.proofs.VersionLaws.{same_signal-Decides, AreChanges-push, AreChanges-none, AreWithin, AreWithin-none, unless_full-ok, is_latest-push}
+use Rattle.cds_book.proofs.RaisedLaws.{no_more}
+use Rattle.cds_book.proofs.VersionLaws.{same_signal-Decides, AreChanges-push, AreChanges-none, AreWithin, AreWithin-none, unless_full-ok}
 
 -- the tables once a trace is put
-pub applied-trace : (t : TablesState) (name : List ℕ) (signal : Signal) → applied t (change.Trace name signal) ≡ with_signals t name (signals_of t name ++ signal ∷ [])
-unfolding applied
-applied-trace t name signal = refl
+pub carried-trace : (t : TablesState) (name : List ℕ) (signal : Signal) → carried t (change.Trace name signal) ≡ with_signals t name (signals_of t name ++ signal ∷ [])
+carried-trace t name signal = refl
 
 -- the name of an entry
 abbrev pub trace_name : NamedTraces → List ℕ
@@ -82,12 +83,12 @@ module _ (t : TablesState) (kept : IsTables t) (name : List ℕ) (signal : Signa
       by_found (Some e) is = some_versions e.versions (named-All trace_name IsTraceEntry t.traces name e kept.traces.each is).some
 
   -- the counts that a trace raises
-  pub counts-trace : counts_of (change.Trace name signal) (applied t (change.Trace name signal)) ≡
+  pub counts-trace : counts_of (change.Trace name signal) (carried t (change.Trace name signal)) ≡
       (length t.traces + new_name (signals_of t name), MOST_TRACE_NAMES) ∷ (length (signals_of t name) + 1, MOST_VERSIONS) ∷ (trace_versions_in_all t.traces + 1, MOST_TRACE_VERSIONS) ∷ (samples_in_all t.traces + length signal.samples, MOST_SAMPLES_IN_ALL) ∷ []
   counts-trace =
       let versions = signals_of t name ++ signal ∷ [] in
       let same : length (signals_of (with_signals t name versions) name) ≡ length (signals_of t name) + 1 = ap length (signals_of-with t name versions) ∙ length-append (signals_of t name) (signal ∷ []) in
-      rw (applied-trace t name signal, names-trace, same, trace_versions-trace, samples-trace) refl
+      rw (carried-trace t name signal, names-trace, same, trace_versions-trace, samples-trace) refl
 
 -- what a trace is answered, by its versions and by the counts that it raises
 module _ (t : TablesState) (name : List ℕ) (signal : Signal) (versions : List Signal) (are : versions ≡ signals_of t name) where
@@ -99,7 +100,7 @@ module _ (t : TablesState) (name : List ℕ) (signal : Signal) (versions : List 
       rw latest refl
 
   -- another trace is judged by the limits
-  pub planned-other_trace : (counts : List (ℕ × ℕ)) (limit : Option ℕ) → false ≡ is_latest same_signal versions signal → counts ≡ counts_of (change.Trace name signal) (applied t (change.Trace name signal)) → limit ≡ limit_passed counts → planned t (command.Trace name signal) ≡ unless_full limit (change.Trace name signal)
+  pub planned-other_trace : (counts : List (ℕ × ℕ)) (limit : Option ℕ) → false ≡ is_latest same_signal versions signal → counts ≡ counts_of (change.Trace name signal) (carried t (change.Trace name signal)) → limit ≡ limit_passed counts → planned t (command.Trace name signal) ≡ unless_full limit (change.Trace name signal)
   unfolding planned
   planned-other_trace counts limit other raised is =
       let latest : is_latest same_signal (signals_of t name) signal ≡ false = ap (λ vs. is_latest same_signal vs signal) (sym are) ∙ sym other in
@@ -108,7 +109,7 @@ module _ (t : TablesState) (name : List ℕ) (signal : Signal) (versions : List 
 -- what an accepted trace is: another than the latest version, whose counts are within the limits
 pub record IsNewTrace (t : TablesState) (name : List ℕ) (signal : Signal) : Type 0 where
   pub other : is_latest same_signal (signals_of t name) signal ≡ false
-  pub within : AreWithin (counts_of (change.Trace name signal) (applied t (change.Trace name signal)))
+  pub within : AreWithin (counts_of (change.Trace name signal) (carried t (change.Trace name signal)))
 
 pub IsNewTrace-accepted : (t : TablesState) (name : List ℕ) (signal : Signal) → Accepts t (change.Trace name signal) → IsNewTrace t name signal
 IsNewTrace-accepted t name signal accepts = elim (cases_Bool (is_latest same_signal (signals_of t name) signal)) [
@@ -117,7 +118,7 @@ IsNewTrace-accepted t name signal accepts = elim (cases_Bool (is_latest same_sig
       let contrary : Ok plan.Unchanged ≡ Ok (plan.Change (change.Trace name signal)) = sym unchanged ∙ accepts.accepted in
       cc
   | inr other ↦
-      let counts = counts_of (change.Trace name signal) (applied t (change.Trace name signal)) in
+      let counts = counts_of (change.Trace name signal) (carried t (change.Trace name signal)) in
       let judged = planned-other_trace t name signal (signals_of t name) refl counts _ (sym other) refl refl in
       record {
         other = other;
@@ -134,14 +135,23 @@ AreChanges-signals t kept name = by_found (traces_named t name) refl
     by_found None is = AreChanges-none
     by_found (Some e) is = (named-All trace_name IsTraceEntry t.traces name e kept.traces.each is).changes
 
+-- a name has few versions
+pub few_signals : (t : TablesState) → IsTables t → (name : List ℕ) → length (signals_of t name) ≤ MOST_VERSIONS
+unfolding signals_of
+few_signals t kept name = by_found (traces_named t name) refl
+  where
+    by_found : (found : Option NamedTraces) → traces_named t name ≡ found → length (unwrap_or (option_map (λ (e : NamedTraces). e.versions) found) []) ≤ MOST_VERSIONS
+    by_found None is = omega arith
+    by_found (Some e) is = (named-All trace_name IsTraceEntry t.traces name e kept.traces.each is).few
+
 -- all rules are kept when an accepted trace is put
-pub IsTables-trace : (t : TablesState) (name : List ℕ) (signal : Signal) → IsTables t → Accepts t (change.Trace name signal) → IsTables (applied t (change.Trace name signal))
+pub IsTables-trace : (t : TablesState) (name : List ℕ) (signal : Signal) → IsTables t → Accepts t (change.Trace name signal) → IsTables (carried t (change.Trace name signal))
 IsTables-trace t name signal kept accepts =
     let new = IsNewTrace-accepted t name signal accepts in
     let versions = signals_of t name ++ signal ∷ [] in
     let entry : NamedTraces = record { name = name; versions = versions } in
     let after = with_signals t name versions in
-    let is : applied t (change.Trace name signal) ≡ after = applied-trace t name signal in
+    let is : carried t (change.Trace name signal) ≡ after = carried-trace t name signal in
     let within : AreWithin (counts_of (change.Trace name signal) after) = subst (λ s. AreWithin (counts_of (change.Trace name signal) s)) is new.within in
     let few : length versions ≤ MOST_VERSIONS = subst (λ (vs : List Signal). length vs ≤ MOST_VERSIONS) (signals_of-with t name versions) within.1.0 in
     let kept_entry : IsTraceEntry entry = record {
@@ -158,11 +168,7 @@ IsTables-trace t name signal kept accepts =
         few_samples = within.1.1.1.0;
       };
       methods = kept.methods;
+      sequences = kept.sequences;
+      bases = let more = trace_versions-trace t kept name signal in no_more (changes_in_all t) (changes_in_all after) t.sequences (omega (arith, more)) kept.bases;
     } in
     subst IsTables (sym is) all
-
--- a trace that was put is the latest version: putting it again changes nothing
-pub planned-trace_again : (t : TablesState) (name : List ℕ) (signal : Signal) → planned (applied t (change.Trace name signal)) (command.Trace name signal) ≡ Ok plan.Unchanged
-planned-trace_again t name signal =
-    let versions = signals_of t name ++ signal ∷ [] in
-    rw (applied-trace t name signal) (planned-latest_trace (with_signals t name versions) name signal versions (sym (signals_of-with t name versions)) (sym (is_latest-push same_signal same_signal-Decides (signals_of t name) signal)))

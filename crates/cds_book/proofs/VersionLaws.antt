@@ -13,7 +13,7 @@ use Rattle.cds_trace.specs.Signal.{Signal}
 use Rattle.cds_book.specs.Kept.{AreChanges}
 use Rattle.cds_book.specs.Plan.{limit_passed, unless_full, same_signal, is_latest}
 use Rattle.cds_book.specs.Tables.{latest}
-use Rattle.cds_book.specs.declared.command.Change.{Change}
+use Rattle.cds_sign.specs.declared.command.Change.{Change}
 use Rattle.cds_book.specs.declared.command.Plan.TheVariants as plan
 
 -- whether two traces are equal

@@ -1,5 +1,9 @@
 pub mod Tables
+pub mod Inputs
+pub mod Same
 pub mod Kept
+pub mod Judged
 pub mod Plan
 pub mod Refusal
 pub mod Held
+pub mod Raising

@@ -1,14 +1,21 @@
 //! Laws of the tables. Each is proved by its contract, and its body does nothing.
-ghost use Rattle.std.specs.Prelude.{◌≤◌, ◌≡◌, ◌≢◌, ℕ, ◌+◌, List, Ok, Some, unwrap_or};
+ghost use Rattle.std.specs.Prelude.{option_map, if◌then◌else◌, ◌≤◌, ◌≡◌, ◌≢◌, ℕ, ◌+◌, List, Ok, Some, unwrap_or};
 ghost use Rattle.cds_trace.specs.Signal.{Signal};
 ghost use Rattle.cds_book.specs.Kept.{IsTables};
-ghost use Rattle.cds_book.specs.Plan.{planned, applied, command_of, trace_changed, method_changed, Accepts};
-ghost use Rattle.cds_book.specs.Tables.{TablesState, signals_of, texts_of, trace_of, trace_versions_of, draft_of, method_of, method_versions_of};
-ghost use Rattle.cds_book.specs.declared.command.Change.{Change as Changed};
-ghost use Rattle.cds_book.specs.declared.command.Command.{Command as Asked};
-ghost use Rattle.cds_book.specs.declared.command.Change.TheVariants as change;
+ghost use Rattle.cds_book.specs.Plan.{planned, applied, carried, command_of, trace_changed, method_changed, Accepts};
+ghost use Rattle.cds_book.specs.Plan.{basis_of, inputs_differ, sequence_changed, sequence_put};
+ghost use Rattle.cds_book.specs.Judged.{edition_of};
+ghost use Rattle.cds_book.specs.Tables.{TablesState, signals_of, texts_of, trace_of, trace_versions_of, draft_of, method_of, method_versions_of, sequence_of, signed_of};
+ghost use Rattle.cds_sign.specs.declared.row.Row.{Row as RowSeen};
+ghost use Rattle.cds_sign.specs.declared.sequence.Sequence.{Sequence as SequenceSeen};
+ghost use Rattle.cds_sign.specs.declared.signed.Signed.{Signed as SignedSeen};
+ghost use Rattle.cds_sign.specs.declared.command.Change.{Change as Changed};
+ghost use Rattle.cds_sign.specs.declared.command.Command.{Command as Asked};
+ghost use Rattle.cds_sign.specs.declared.command.Change.TheVariants as change;
 ghost use Rattle.cds_book.specs.declared.command.Plan.TheVariants as plan;
-ghost use Rattle.cds_book.specs.declared.limits.TheConstants.{MOST_TRACE_NAMES, MOST_VERSIONS, MOST_TRACE_VERSIONS, MOST_SAMPLES_IN_ALL, MOST_METHODS, MOST_METHOD_VERSIONS};
+ghost use Rattle.cds_book.specs.declared.limits.TheConstants.{MOST_TRACE_NAMES, MOST_TRACE_VERSIONS, MOST_SAMPLES_IN_ALL, MOST_METHODS, MOST_METHOD_VERSIONS};
+ghost use Rattle.cds_book.specs.declared.limits.TheConstants.{MOST_SEQUENCES, MOST_ROWS_IN_ALL, MOST_SIGNED_BYTES};
+ghost use Rattle.cds_sign.specs.declared.limits.TheConstants.{MOST_VERSIONS, MOST_SIGNATURES};
 
 /// An accepted change keeps all rules of the tables.
 pub fn rules_are_kept()
@@ -75,6 +82,34 @@ pub fn other_methods_stay()
         → (draft_of (applied tables c) name ≡ draft_of tables name) × (texts_of (applied tables c) name ≡ texts_of tables name) }
 {}
 
+/// A sequence that was put is read back with the next edition, and with a basis that is one more than before exactly
+/// where its inputs are others.
+pub fn a_put_sequence_is_read_back()
+    ensures { (tables : TablesState) (name : List ℕ) (edition : ℕ) (method : List ℕ) (version : ℕ) (standards : List (List ℕ)) (rows : List RowSeen)
+        → sequence_of (applied tables (change.Sequence name edition method version standards rows)) name
+        ≡ Some (record (sequence_put tables name method version standards rows)
+        { basis = basis_of tables name + (if inputs_differ tables (carried tables (change.Sequence name edition method version standards rows)) name then 1 else 0) }) }
+{}
+
+/// An accepted change of a sequence raises its edition by one.
+pub fn an_accepted_change_raises_the_edition()
+    ensures { (tables : TablesState) (c : Changed) (name : List ℕ) → IsTables tables → Accepts tables c → sequence_changed c ≡ Some name
+        → edition_of (applied tables c) name ≡ edition_of tables name + 1 }
+{}
+
+/// Whatever is changed, the basis of a sequence that was there rises by one exactly where its inputs are then others.
+pub fn a_basis_rises_where_inputs_differ()
+    ensures { (tables : TablesState) (c : Changed) (name : List ℕ) (s : SequenceSeen) → sequence_of tables name ≡ Some s
+        → option_map (λ (x : SequenceSeen). x.basis) (sequence_of (applied tables c) name)
+        ≡ Some (s.basis + (if inputs_differ tables (applied tables c) name then 1 else 0)) }
+{}
+
+/// Whatever is changed, each signature stays what it was.
+pub fn signatures_stay()
+    ensures { (tables : TablesState) (c : Changed) (name : List ℕ) (number : ℕ) (signed : SignedSeen)
+        → signed_of tables name number ≡ Some signed → signed_of (applied tables c) name number ≡ Some signed }
+{}
+
 /// A change that is planned is the one that was asked for.
 pub fn a_change_is_what_was_asked()
     ensures { (tables : TablesState) (asked : Asked) (c : Changed) → planned tables asked ≡ Ok (plan.Change c) → command_of c ≡ asked }
@@ -88,5 +123,8 @@ pub fn an_accepted_freeze_is_numbered()
 
 /// The limits of the tables are these numbers.
 pub fn the_limits()
-    ensures { (MOST_TRACE_NAMES ≡ 5000) × (MOST_VERSIONS ≡ 1000) × (MOST_TRACE_VERSIONS ≡ 10000) × (MOST_SAMPLES_IN_ALL ≡ 20000000) × (MOST_METHODS ≡ 500) × (MOST_METHOD_VERSIONS ≡ 10000) }
+    ensures traces { (MOST_TRACE_NAMES ≡ 5000) × (MOST_TRACE_VERSIONS ≡ 10000) × (MOST_SAMPLES_IN_ALL ≡ 20000000) }
+    ensures methods { (MOST_METHODS ≡ 500) × (MOST_METHOD_VERSIONS ≡ 10000) }
+    ensures sequences { (MOST_SEQUENCES ≡ 500) × (MOST_ROWS_IN_ALL ≡ 5000) × (MOST_SIGNED_BYTES ≡ 268435456) }
+    ensures each { (MOST_VERSIONS ≡ 1000) × (MOST_SIGNATURES ≡ 100) }
 {}

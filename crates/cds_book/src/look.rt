@@ -1,12 +1,13 @@
 //! What the tables hold. Each look-up is None exactly where the thing isn't there, and takes no memory.
-ghost use Rattle.std.specs.Prelude.{◌≡◌, ◌≤◌, option_copied, IfSome};
+ghost use Rattle.std.specs.Prelude.{◌≡◌, ◌≤◌, length, option_copied, option_map, is_some, IfSome};
 ghost use Rattle.cds_book.specs.Kept.{IsTables};
-ghost use Rattle.cds_book.specs.Tables.{trace_of, trace_versions_of, signals_of, draft_of, method_of, method_versions_of, texts_of};
+ghost use Rattle.cds_sign.specs.declared.limits.TheConstants.{MOST_SIGNATURES};
+ghost use Rattle.cds_book.specs.Tables.{sequence_of, sequence_at, signatures_of, signed_of, trace_of, trace_versions_of, signals_of, draft_of, method_of, method_versions_of, texts_of};
 
 use crate::entry::numbered;
-use crate::limits::MOST_VERSIONS;
 use crate::tables::Tables;
 use cds_base::{Bytes, Name};
+use cds_sign::{MOST_VERSIONS, Sequence, Signed};
 use cds_trace::Trace;
 
 impl Tables {
@@ -91,5 +92,64 @@ impl Tables {
             return &[];
         };
         &texts.versions
+    }
+
+    // Whether a method has a draft.
+    pub(crate) fn has_draft(&self, name: Name) -> bool
+        ensures { result ≡ is_some (draft_of self.now.state name) }
+    {
+        self.draft(name).is_some()
+    }
+
+    /// The sequence of a name.
+    pub fn sequence(&self, name: Name) -> Option<&Sequence>
+        ensures { option_copied result ≡ sequence_of self.now.state name }
+    {
+        let Some(kept) = self.sequences.find(name) else {
+            return None;
+        };
+        Some(&kept.sequence)
+    }
+
+    // Whether there is a sequence of this name.
+    pub(crate) fn has_sequence(&self, name: Name) -> bool
+        ensures { result ≡ is_some (sequence_of self.now.state name) }
+    {
+        self.sequence(name).is_some()
+    }
+
+    /// The sequence at a place in byte order of the names, counted from 0, with its name.
+    pub fn sequence_at(&self, i: u32) -> Option<(Name, &Sequence)>
+        ensures { option_map (λ e. (e.0, e.1.now)) result ≡ sequence_at self.now.state i }
+    {
+        let Some(entry) = self.sequences.entries.get(i as usize) else {
+            return None;
+        };
+        Some((entry.name, &entry.value.sequence))
+    }
+
+    // How many sequences there are.
+    pub(crate) fn sequence_count(&self) -> usize
+        ensures { result ≡ length self.now.state.sequences }
+    {
+        self.sequences.len()
+    }
+
+    // The signatures of a sequence, none where there is no such sequence.
+    pub(crate) fn signatures(&self, name: Name) -> &[Signed]
+        ensures value { result.now ≡ signatures_of self.now.state name }
+        ensures few { length result.now ≤ MOST_SIGNATURES }
+    {
+        let Some(kept) = self.sequences.find(name) else {
+            return &[];
+        };
+        &kept.signed
+    }
+
+    /// The signature of a sequence of this number, counted from 1.
+    pub fn signed(&self, sequence: Name, number: u32) -> Option<&Signed>
+        ensures { option_copied result ≡ signed_of self.now.state sequence number }
+    {
+        numbered(self.signatures(sequence), number)
     }
 }

@@ -1,7 +1,7 @@
 ghost use Rattle.std.specs.Prelude.{◌≡◌, None};
 ghost use Rattle.cds_book.specs.Tables.{empty_tables};
 
-use crate::entry::MethodTexts;
+use crate::entry::{MethodTexts, SignedSequence};
 use crate::room::Taken;
 use cds_base::NamedList;
 use cds_trace::Trace;
@@ -9,8 +9,8 @@ use std::alloc::Global;
 use std::marker::Model;
 
 /// The tables: traces under their names in versions, and methods with a draft and frozen versions, all numbered
-/// from 1. They hold texts as they were sent, the samples that they state, and no result. Seen as what they hold, and
-/// as the kind and the name of the change for which room was taken. Whatever was done to them, names rise in byte
+/// from 1, and sequences with their signatures. They hold texts as they were sent, the samples that they state, and no
+/// result. Seen as what they hold, and as the room that was taken for a change. Whatever was done to them, names rise in byte
 /// order, each version differs from the one before it, each text is a method, and no count passes its limit.
 #[derive(Debug, Drop)]
 pub struct Tables {
@@ -24,6 +24,8 @@ pub struct Tables {
     pub(crate) methods: NamedList<MethodTexts>,
     /// How many versions all methods have together.
     pub(crate) method_versions: u64,
+    /// The sequences with their signatures.
+    pub(crate) sequences: NamedList<SignedSequence>,
     pub(crate) room: Option<Taken>,
 }
 
@@ -50,6 +52,7 @@ impl Tables {
             samples: 0,
             methods: NamedList::new(alloc),
             method_versions: 0,
+            sequences: NamedList::new(alloc),
             room: None,
         }
     }

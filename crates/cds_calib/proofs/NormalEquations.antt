@@ -1,5 +1,5 @@
 -- The lines meet the normal equations of least squares.
-use Rattle.std.proofs.Common.{◌≡◌, ℕ, zero, suc, ◌+◌, ◌-◌, ◌*◌, ◌/◌, ◌<◌, ◌≤◌, Bool, true, false, ◌&&◌, cond, ltb, List, [], ◌∷◌, length, Result, Ok, Err, ℤ, pos, ◌+ℤ◌, ◌-ℤ◌, ◌*ℤ◌, refl, sym, ap, ap₂, ◌∙◌, subst, arith}
+use Rattle.std.proofs.Common.{◌≡◌, ℕ, zero, suc, ◌+◌, ◌-◌, ◌*◌, ◌/◌, ◌<◌, Bool, true, false, cond, ltb, List, [], ◌∷◌, length, Ok, Err, ℤ, pos, ◌+ℤ◌, ◌-ℤ◌, ◌*ℤ◌, refl, ap, ◌∙◌, subst, arith}
 use Rattle.std.specs.List.{sum_by, All}
 use Rattle.std.proofs.Math.IntN.{*ℤ-zero, *ℤ_comm, suc_ℤ-*ℤ}
 use Rattle.std.proofs.lemmas.Bool.{ltb-true}
@@ -13,7 +13,7 @@ use Rattle.cds_calib.specs.declared.point.Point.{Point}
 use Rattle.cds_calib.specs.Points.{IsCalibration, sum_x, sum_y, sum_xx, sum_xy}
 use Rattle.cds_calib.specs.Line.{differ, corrected_xx, corrected_xy}
 use Rattle.cds_calib.specs.Fit.{CalibrationLine, rising, equal_line, origin_line, inverse_line, weights_fit, common_multiple, weighted_divisor, sum_w, sum_wy, fit_of}
-use Rattle.cds_calib.specs.LeastSquares.{MeetsNormalEquations, sum_weights, weighted_x, weighted_y, weighted_xx, weighted_xy}
+use Rattle.cds_calib.specs.LeastSquares.{MeetsNormalEquations}
 use Rattle.cds_calib.proofs.LeastMultiple.{Shares-common_multiple}
 use Rattle.cds_calib.proofs.Spread.{square_le}
 use Rattle.cds_calib.proofs.Weighted.{Shares, weight-times, weighted_le}

@@ -1,5 +1,5 @@
 -- A coefficient of determination by comparing two fractions, and the greatest one that is reached.
-use Rattle.std.proofs.Common.{◌≡◌, ℕ, ◌+◌, ◌-◌, ◌*◌, ◌<◌, ◌≤◌, Bool, true, false, not, cond, eqb, ltb, leb, List, length, Ok, Err, ℤ, pos, ◌*ℤ◌, int_cmp, Ordering, refl, sym, ap, ap₂, ◌∙◌, subst, arith, mul-pos, inl, inr}
+use Rattle.std.proofs.Common.{◌≡◌, ℕ, ◌-◌, ◌*◌, ◌<◌, ◌≤◌, Bool, true, false, not, cond, eqb, ltb, leb, List, length, Ok, Err, ℤ, pos, ◌*ℤ◌, int_cmp, Ordering, refl, sym, ap, ap₂, ◌∙◌, subst, arith, mul-pos, inl, inr}
 use Rattle.std.proofs.Math.Nat.{mul-le-mul, mul-le-mul_right}
 use Rattle.std.proofs.lemmas.Bool.{lt-ltb, le-ltb, ltb-true, le-leb, leb-true, cases_lt}
 use Rattle.std.proofs.lemmas.Bool.Decides.{nat_tests}

@@ -24,7 +24,8 @@ diluted line y u v = lowest_terms (above_intercept line y *ℤ pos u) (line.slop
 abbrev pub undiluted_fits : Weight → CalibrationLine → ℕ → Bool
 undiluted_fits Equal line y = true
 undiluted_fits Origin line y = true
-undiluted_fits Inverse line y = nat_lt (y * line.divisor) PART_LIMIT && nat_lt (unsigned_abs (above_intercept line y)) PART_LIMIT
+undiluted_fits Inverse line y = nat_lt (y * line.divisor) PART_LIMIT
+    && nat_lt (unsigned_abs (above_intercept line y)) PART_LIMIT
 
 -- both parts of the fraction are below 2^126 in absolute value
 abbrev pub parts_fit : Fraction → Bool

@@ -22,7 +22,8 @@ reaches points q = nat_le (q * total points) (explained points)
 
 -- what stands of points whose line rises, or why it doesn't: fewer than two different amounts, or no rise
 abbrev pub if_rising : {A : Type 0} → List Point → A → Result A Missing
-if_rising points a = if differ points then (if nat_lt 0 (corrected_xy points) then Ok a else Err NotRising) else Err TooFew
+if_rising points a =
+    if differ points then (if nat_lt 0 (corrected_xy points) then Ok a else Err NotRising) else Err TooFew
 
 -- whether r^2 is at least q / 10000
 abbrev pub at_least_of : List Point → ℕ → Result Bool Missing

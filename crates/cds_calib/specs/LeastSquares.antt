@@ -1,7 +1,7 @@
 -- What makes a straight line y = a + b x the least squares line of weighted points: the two normal equations
 -- a Sw + b Swx = Swy and a Swx + b Swxx = Swxy, and b Sxx = Sxy for a line through the origin. The numbers of a line are
 -- numerators over its divisor, so each equation here is one of whole numbers, times the divisor.
-use Rattle.std.specs.Prelude.{◌≡◌, ℕ, ◌*◌, ◌/◌, List, sum_by, pos, ◌+ℤ◌, ◌*ℤ◌}
+use Rattle.std.specs.Prelude.{◌≡◌, ℕ, ◌*◌, List, sum_by, pos, ◌+ℤ◌, ◌*ℤ◌}
 use Rattle.cds_calib.specs.declared.point.Point.{Point}
 use Rattle.cds_calib.specs.Fit.{CalibrationLine}
 
@@ -25,5 +25,7 @@ weighted_xy w points = sum_by (λ p. w p * (p.amount * p.area)) points
 
 -- the line meets both normal equations of points with these weights
 pub record MeetsNormalEquations (w : Point → ℕ) (points : List Point) (line : CalibrationLine) : Type 0 where
-  pub level : (line.intercept *ℤ pos (sum_weights w points)) +ℤ (pos line.slope *ℤ pos (weighted_x w points)) ≡ pos line.divisor *ℤ pos (weighted_y w points)
-  pub rise : (line.intercept *ℤ pos (weighted_x w points)) +ℤ (pos line.slope *ℤ pos (weighted_xx w points)) ≡ pos line.divisor *ℤ pos (weighted_xy w points)
+  pub level : (line.intercept *ℤ pos (sum_weights w points)) +ℤ (pos line.slope *ℤ pos (weighted_x w points))
+      ≡ pos line.divisor *ℤ pos (weighted_y w points)
+  pub rise : (line.intercept *ℤ pos (weighted_x w points)) +ℤ (pos line.slope *ℤ pos (weighted_xx w points))
+      ≡ pos line.divisor *ℤ pos (weighted_xy w points)

@@ -1,5 +1,5 @@
 //! The amount of an area.
-ghost use Rattle.std.specs.Prelude.{◌≡◌, ◌^◌, ◌<◌, ◌≤◌};
+ghost use Rattle.std.specs.Prelude.{◌≡◌, ◌<◌, ◌≤◌};
 ghost use Rattle.cds_calib.specs.Amount.{amount_of};
 
 use crate::fit::Fit;

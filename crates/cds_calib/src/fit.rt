@@ -30,7 +30,8 @@ impl Model for Fit {
 
     ghost view = { λ f. record { weight = f.weight; divisor = f.divisor; slope = f.slope; intercept = f.intercept } };
 
-    ghost invariant = { λ f. IsFit (record { weight = f.weight; divisor = f.divisor; slope = f.slope; intercept = f.intercept }) };
+    ghost invariant = { λ f. IsFit
+        (record { weight = f.weight; divisor = f.divisor; slope = f.slope; intercept = f.intercept }) };
 
     ghost inverse = { λ l. record { weight = l.weight; divisor = l.divisor; slope = l.slope; intercept = l.intercept } };
 }

@@ -1,9 +1,10 @@
 //! Laws of calibration. Each is proved by its contract, and its body does nothing.
-ghost use Rattle.std.specs.Prelude.{◌≡◌, ◌*◌, ◌/◌, ℕ, List, Ok};
+ghost use Rattle.std.specs.Prelude.{◌≡◌, ◌*◌, ◌/◌, ◌^◌, List, Ok};
 ghost use Rattle.cds_calib.specs.declared.determination.TheConstants.{MOST_DETERMINATION};
 ghost use Rattle.cds_calib.specs.declared.point.Point.{Point};
 ghost use Rattle.cds_calib.specs.declared.point.TheConstants.{MOST_AMOUNT, MOST_POINTS};
 ghost use Rattle.cds_calib.specs.Fit.{CalibrationLine, fit_of, common_multiple};
+ghost use Rattle.cds_calib.specs.Fit.{divisor_limit, slope_limit, intercept_limit};
 ghost use Rattle.cds_calib.specs.LeastSquares.{MeetsNormalEquations};
 ghost use Rattle.cds_calib.specs.Points.{IsCalibration, sum_xx, sum_xy};
 ghost use Rattle.cds_rules.specs.declared.method.Weight.TheVariants.{Equal, Origin, Inverse};
@@ -32,4 +33,9 @@ pub fn inverse_lines_are_least_squares()
 pub fn the_limits()
     ensures points { (MOST_POINTS ≡ 64) × (MOST_AMOUNT ≡ 1000000000) }
     ensures determination { MOST_DETERMINATION ≡ 10000 }
+    ensures divisors { (divisor_limit Equal ≡ 2 ^ 72) × (divisor_limit Origin ≡ 2 ^ 66)
+        × (divisor_limit Inverse ≡ 2 ^ 102) }
+    ensures slopes { (slope_limit Equal ≡ 2 ^ 94) × (slope_limit Origin ≡ 2 ^ 88) × (slope_limit Inverse ≡ 2 ^ 124) }
+    ensures intercepts { (intercept_limit Equal ≡ 2 ^ 124) × (intercept_limit Origin ≡ 1)
+        × (intercept_limit Inverse ≡ 2 ^ 126) }
 {}

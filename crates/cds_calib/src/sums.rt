@@ -1,5 +1,5 @@
 //! The plain sums of points.
-ghost use Rattle.std.specs.Prelude.{◌≡◌, ◌^◌, ◌<◌};
+ghost use Rattle.std.specs.Prelude.{◌≡◌, ◌<◌};
 ghost use Rattle.cds_calib.specs.Sums.{with_point, IsSmall, HasPoint};
 
 use crate::point::Point;

@@ -1,3 +1,10 @@
+pub mod SevenLaws
+pub mod LoopLaws
+pub mod FieldLaws
+pub mod PrintedLaws
 pub mod Lengths
-pub mod Accepted
-pub mod OneChange
+pub mod SampleLaws
+pub mod PairLaws
+pub mod RowLaws
+pub mod TraceLaws
+pub mod ChangeLaws

@@ -1,13 +1,25 @@
 //! The records of changes, as a store keeps them.
 //!
-//! Begin at [`write`] for the record of a change.
+//! Begin at [`write`] for the record of a change, and at [`read`] for the change of a record.
 #![tactic(auto)]
 
+mod events;
+mod fields;
+mod format;
+mod items;
 mod laws;
-mod record;
+mod pairs;
+mod pushing;
+mod reading;
+mod rows;
+mod samples;
+mod sequences;
+mod writing;
 
-pub use laws::{an_accepted_change_has_a_record, each_record_states_one_change, the_kinds};
-pub use record::write;
+pub use format::MOST_FIRST_SAMPLES;
+pub use laws::{each_record_states_one_change, the_kinds, the_limits};
+pub use reading::{convert, read};
+pub use writing::write;
 
 #[cfg(test)]
 mod tests;

@@ -1,11 +1,9 @@
-pub mod SendingLaws
 pub mod Numbers
-pub mod ReceivingLaws
 pub mod ServingLaws
 pub mod ToldItems
-pub mod RefusalTexts
 pub mod TurnLaws
-pub mod Commands
+pub mod CommandLaws
 pub mod RepeatLaws
 pub mod SessionLaws
 pub mod StatusLaws
+pub mod RouteLaws

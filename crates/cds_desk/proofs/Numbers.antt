@@ -1,7 +1,7 @@
 -- What `parse` answers to a text of digits.
 use Rattle.std.proofs.Common.{◌≡◌, ℕ, ◌≤◌, ◌<◌, ◌^◌, List, length, true, Some, None, Result, Ok, Err, rules, arith, if◌then◌else◌}
 use Rattle.std.specs.Prelude.{nat_lt, IsTrue}
-use Rattle.cds_desk.specs.Words.{is_number, below_2_64}
+use Rattle.cds_desk.specs.Words.{is_number, below_limit}
 use Rattle.std.specs.Char.{is_ascii_digit}
 use Rattle.std.specs.List.{list_all}
 use Rattle.std.specs.Result.{result_ok, OkIff}
@@ -19,7 +19,7 @@ found_below n v limit (Ok x) some h = let below : v < limit = h.0.1 in let same 
 found_below n v limit (Err e) some h = let not_below : ¬ (v < limit) = (λ b. h (omega arith, b)) in grind (arith, nat_tests, common_steps)
 
 -- digits are read as their number, where it is below 2^64
-pub parsed_digits : {E : Type 0} (text : List ℕ) (r : Result ℕ E) → ParsesUnsigned 64 10 text r → IsTrue (is_number text) → result_ok r ≡ below_2_64 (digits_value 10 text)
+pub parsed_digits : {E : Type 0} (text : List ℕ) (r : Result ℕ E) → ParsesUnsigned 64 10 text r → IsTrue (is_number text) → result_ok r ≡ below_limit (digits_value 10 text)
 parsed_digits text r h number = found_below (length text) (digits_value 10 text) (2 ^ 64) r (some_of text number) (parse_digits own 64 text r h (digits_of text number))
   where
     some_of : (text : List ℕ) → IsTrue (is_number text) → 1 ≤ length text

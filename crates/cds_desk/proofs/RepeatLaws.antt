@@ -1,153 +1,182 @@
--- A request that changed the tables, repeated at once; and a request that is refused.
+-- A request that changed the state, repeated at once; and a request that is refused.
 use Rattle.std.proofs.Common.{◌≡◌, ℕ, ◌≤◌, Bool, true, false, List, Option, Some, None, Result, Ok, Err, refl, sym, ap, ◌∙◌, subst, arith}
-use Rattle.std.specs.Prelude.{IsTrue, is_some, bytes_eq, length, unwrap_or, option_map}
+use Rattle.std.specs.Prelude.{IfSome, IsTrue, is_some, bytes_eq}
+use Rattle.cds_base.specs.NameText.{IsName}
 use Rattle.cds_rules.specs.Fields.{Fields}
 use Rattle.cds_rules.specs.Stated.{stated}
 use Rattle.cds_rules.specs.declared.error.MethodError.{MethodError}
 use Rattle.cds_trace.specs.Signal.{Signal}
 use Rattle.cds_trace.specs.TraceText.{csv_trace}
-use Rattle.cds_trace.specs.WrittenText.{csv_text}
 use Rattle.cds_trace.specs.declared.error.TraceError.{TraceError}
 use Rattle.cds_book.specs.Kept.{IsMethod}
 use Rattle.cds_book.specs.Plan.{planned, applied, command_of, Accepts, IsCommand}
-use Rattle.cds_book.specs.Tables.{TablesState, trace_of, trace_versions_of, draft_of, method_of, method_versions_of}
-use Rattle.cds_book.specs.declared.command.Change.{Change}
-use Rattle.cds_book.specs.declared.command.Command.{Command}
-use Rattle.cds_book.specs.declared.command.Command.TheVariants as command
+use Rattle.cds_book.specs.Tables.{TablesState, draft_of, sequence_of, signed_of}
+use Rattle.cds_sign.specs.declared.sequence.Sequence.{Sequence}
+use Rattle.cds_sign.specs.declared.signed.Signed.{Signed}
+use Rattle.cds_sign.specs.declared.command.Change.{Change}
+use Rattle.cds_sign.specs.declared.command.Command.{Command}
+use Rattle.cds_sign.specs.declared.command.Command.TheVariants as command
 use Rattle.cds_book.specs.declared.command.Plan.{Plan}
 use Rattle.cds_book.specs.declared.command.Plan.TheVariants as plan
 use Rattle.cds_book.specs.declared.error.PlanError.{PlanError}
-use Rattle.cds_book.proofs.PlanLaws.{command_of-planned, planned-again}
 use Rattle.cds_http.specs.Items.{Message}
 use Rattle.cds_wire.specs.Stated.{body as stated_in, freeze_of}
-use Rattle.cds_wire.specs.declared.answer.Answer.{Answer}
-use Rattle.cds_wire.specs.declared.answer.Answer.TheVariants as answer
 use Rattle.cds_wire.specs.declared.error.BodyError.{BodyError}
-use Rattle.cds_desk.specs.Routes.{target_of, route_of, method_of as method_on}
-use Rattle.cds_desk.specs.Step.{answered, only, decided, judged, judged_target, judged_method, judged_route, trace_put, draft_status, draft_put, draft_frozen, version_shown, after_change}
+use Rattle.cds_desk.specs.State.{State, after_change}
+use Rattle.cds_desk.specs.Routes.{target_of, method_of as method_on}
+use Rattle.cds_desk.specs.Judged.{reply_of, change_of}
+use Rattle.cds_desk.specs.Commands.{answer_of, sequence_answer, signature_answer, draft_status, sequence_status, made_status, decided, commanded}
+use Rattle.cds_desk.specs.Step.{judged, judged_on, judged_method, judged_route, trace_put, draft_put, draft_frozen}
 use Rattle.cds_desk.specs.Repeat.{IsUnchanged, says_unchanged}
-use Rattle.cds_desk.specs.declared.judge.Judged.{Judged}
-use Rattle.cds_desk.specs.declared.reply.Content.{Content}
-use Rattle.cds_desk.specs.declared.reply.Content.TheVariants as content
-use Rattle.cds_desk.specs.declared.reply.Reply.{Reply}
+use Rattle.cds_desk.specs.declared.judged.Judged.{Judged}
 use Rattle.cds_desk.specs.declared.target.Target.{Target}
-use Rattle.cds_desk.specs.declared.target.Target.TheVariants as target
+use Rattle.cds_desk.specs.declared.routes.Route.{Route}
+use Rattle.cds_desk.specs.declared.routes.Route.TheVariants as route
+use Rattle.cds_desk.proofs.CommandLaws.{method_length, stated_trace, target_named}
 
--- a command that changed something, once more, is decided as unchanged
-decided_again : (tables : TablesState) (asked : Command) (same made after_same after_made : Reply) (p : Result Plan PlanError) → IsCommand asked → planned tables asked ≡ p
-    → IsTrue (is_some (decided p same made).change)
-    → decided (planned (after_change tables (decided p same made).change) asked) after_same after_made ≡ only after_same
-decided_again tables asked same made after_same after_made (Ok plan.Unchanged) may is some = absurd (cc)
-decided_again tables asked same made after_same after_made (Err e) may is some = absurd (cc)
-decided_again tables asked same made after_same after_made (Ok (plan.Change c)) may is some =
-    let asks : command_of c ≡ asked = command_of-planned tables asked c is in
-    let accepts : Accepts tables c = record {
-      command = subst IsCommand (sym asks) may;
-      accepted = ap (planned tables) asks ∙ is;
-    } in
-    let again : planned (applied tables c) asked ≡ Ok plan.Unchanged = ap (planned (applied tables c)) (sym asks) ∙ planned-again tables c accepts in
-    rw again refl
+says_sequence : (s : Option Sequence) → says_unchanged (sequence_answer true s) ≡ true
+says_sequence (Some s) = refl
+says_sequence None = refl
 
--- an answer that says that nothing changed
-unchanged : (j : Judged) (a : Answer) → j ≡ only (answered 200 a) → says_unchanged a ≡ true → IsUnchanged j
-unchanged j a is says = (ap (λ (x : Judged). x.change) is, a, ap (λ (x : Judged). x.reply) is, says)
+says_signature : (s : Option Signed) → says_unchanged (signature_answer true s) ≡ true
+says_signature (Some s) = refl
+says_signature None = refl
 
-trace_again : (tables : TablesState) (name : List ℕ) (r : Result Signal TraceError) → IsTrue (is_some (trace_put tables name r).change)
-    → IsUnchanged (trace_put (after_change tables (trace_put tables name r).change) name r)
-trace_again tables name (Err e) some = absurd (cc)
-trace_again tables name (Ok signal) some =
-    let after = after_change tables (trace_put tables name (Ok signal)).change in
-    unchanged _ (answer.Trace (length signal.samples) true (unwrap_or (trace_versions_of after name) 0))
-    (decided_again tables (command.Trace name signal) _ _ _ _ (planned tables (command.Trace name signal)) tt refl some) refl
+-- the answer to a command that changes nothing says so
+says_so : (asked : Command) (state : State) → says_unchanged (answer_of asked true state) ≡ true
+says_so (command.Trace name signal) state = refl
+says_so (command.Draft name text) state = refl
+says_so (command.Freeze name version) state = refl
+says_so (command.Sequence name edition method version standards rows) state = says_sequence (sequence_of state.tables name)
+says_so (command.Events name edition row events) state = says_sequence (sequence_of state.tables name)
+says_so (command.Rebind name edition version) state = says_sequence (sequence_of state.tables name)
+says_so (command.Sign sequence number basis moment name meaning text) state = says_signature (signed_of state.tables sequence number)
 
-draft_again : (tables : TablesState) (name text : List ℕ) (r : Result Fields MethodError) → stated text ≡ r → IsTrue (is_some (draft_put tables name text r).change)
-    → IsUnchanged (draft_put (after_change tables (draft_put tables name text r).change) name text r)
-draft_again tables name text (Err e) is some = absurd (cc)
-draft_again tables name text (Ok method) is some =
-    let may : IsMethod text = rw is refl in
-    unchanged _ (answer.Draft true)
-    (decided_again tables (command.Draft name text) _ _ _ _ (planned tables (command.Draft name text)) may refl some) refl
+-- what is judged where something changed, once more, is unchanged
+abbrev Again : (State → Judged) → State → Type 0
+Again judging state = IsTrue (is_some (change_of (judging state))) → IsUnchanged (judging (after_change state (change_of (judging state))))
 
-freeze_again : (tables : TablesState) (name : List ℕ) (r : Result ℕ BodyError) → IsTrue (is_some (draft_frozen tables name r).change)
-    → IsUnchanged (draft_frozen (after_change tables (draft_frozen tables name r).change) name r)
-freeze_again tables name (Err e) some = absurd (cc)
-freeze_again tables name (Ok version) some =
-    let after = after_change tables (draft_frozen tables name (Ok version)).change in
-    unchanged _ (answer.Freeze true (unwrap_or (method_versions_of after name) 0))
-    (decided_again tables (command.Freeze name version) _ _ _ _ (planned tables (command.Freeze name version)) tt refl some) refl
+-- a change that is planned is what was asked for, and a change that was carried out, asked for again, changes nothing
+module _ (asked_for : (tables : TablesState) (asked : Command) (c : Change) → planned tables asked ≡ Ok (plan.Change c) → command_of c ≡ asked)
+    (once_more : (tables : TablesState) (c : Change) → Accepts tables c → planned (applied tables c) (command_of c) ≡ Ok plan.Unchanged) where
+  -- a command that is unchanged is answered so
+  unchanged : (state : State) (asked : Command) → planned state.tables asked ≡ Ok plan.Unchanged → IsUnchanged (commanded state asked)
+  unchanged state asked is = rw is (refl, answer_of asked true state, refl, says_so asked state)
 
--- a text that is read changes nothing
-shown_only : (number : ℕ) (name : List ℕ) (version : ℕ) (count : Option ℕ) (media : Content) (text : Option (List ℕ)) → (version_shown number name version count media text).change ≡ None
-shown_only number name version count media (Some text) = refl
-shown_only number name version count media None = refl
+  -- a command that changed something, once more, is unchanged
+  decided_again : (state : State) (asked : Command) (p : Result Plan PlanError) → IsCommand asked → planned state.tables asked ≡ p
+      → IsTrue (is_some (change_of (decided state asked p))) → IsUnchanged (commanded (after_change state (change_of (decided state asked p))) asked)
+  decided_again state asked (Ok plan.Unchanged) may is some = absurd (cc)
+  decided_again state asked (Err e) may is some = absurd (cc)
+  decided_again state asked (Ok (plan.Change c)) may is some =
+      let asks : command_of c ≡ asked = asked_for state.tables asked c is in
+      let accepts : Accepts state.tables c = record {
+        command = subst IsCommand (sym asks) may;
+        accepted = ap (planned state.tables) asks ∙ is;
+      } in
+      unchanged (after_change state (Some c)) asked (ap (planned (applied state.tables c)) (sym asks) ∙ once_more state.tables c accepts)
 
-target_again : (tables : TablesState) (t : Target) (body : List ℕ) → IsTrue (is_some (judged_target tables t body).change)
-    → IsUnchanged (judged_target (after_change tables (judged_target tables t body).change) t body)
-target_again tables (target.Trace name) body some = trace_again tables name (csv_trace body) some
-target_again tables (target.Draft name) body some = draft_again tables name body (stated body) refl some
-target_again tables (target.MethodVersions name) body some = freeze_again tables name (stated_in freeze_of body) some
-target_again tables (target.TraceVersion name version) body some =
-    absurd (let none = shown_only 1 name version (trace_versions_of tables name) content.Csv (option_map csv_text (trace_of tables name version)) in let no = rw none at some in cc)
-target_again tables (target.MethodVersion name version) body some =
-    absurd (let none = shown_only 2 name version (method_versions_of tables name) content.Toml (method_of tables name version) in let no = rw none at some in cc)
+  command_again : (state : State) (asked : Command) → IsCommand asked → Again (λ s. commanded s asked) state
+  command_again state asked may some = decided_again state asked (planned state.tables asked) may refl some
 
-method_again : (tables : TablesState) (t : Target) (method body : List ℕ) (same : Bool) → bytes_eq method (method_on (route_of t)) ≡ same
-    → IsTrue (is_some (judged_method tables t method body).change) → IsUnchanged (judged_method (after_change tables (judged_method tables t method body).change) t method body)
-method_again tables t method body true is some = rw is (target_again tables t body (rw is at some))
-method_again tables t method body false is some = absurd (let no = rw is at some in cc)
+  trace_again : (state : State) (name body : List ℕ) (r : Result Signal TraceError) → IsName name → csv_trace body ≡ r
+      → Again (λ s. trace_put s name r) state
+  trace_again state name body (Err e) is stated some = absurd (cc)
+  trace_again state name body (Ok signal) is stated some =
+      command_again state (command.Trace name signal) ((is, stated_trace body signal stated), tt) some
 
--- the request is judged as unchanged
-pub repeated : (tables : TablesState) (m : Message) (moment again : ℕ) → IsTrue (is_some (judged tables m moment).change)
-    → IsUnchanged (judged (after_change tables (judged tables m moment).change) m again)
-repeated tables m moment again = on (target_of m.target)
-  where
-    on : (t : Option Target) → IsTrue (is_some (judged_route tables t m.method m.body).change)
-        → IsUnchanged (judged_route (after_change tables (judged_route tables t m.method m.body).change) t m.method m.body)
-    on None some = absurd (cc)
-    on (Some t) some = method_again tables t m.method m.body (bytes_eq m.method (method_on (route_of t))) refl some
+  draft_again : (state : State) (name text : List ℕ) (r : Result Fields MethodError) → IsName name → stated text ≡ r
+      → Again (λ s. draft_put s name text r) state
+  draft_again state name text (Err e) named is some = absurd (cc)
+  draft_again state name text (Ok method) named is some =
+      let may : IsMethod text = rw is refl in
+      let few = method_length text may in
+      command_again state (command.Draft name text) ((named, omega (arith, few)), may) some
+
+  freeze_again : (state : State) (name : List ℕ) (r : Result ℕ BodyError) → IsName name → Again (λ s. draft_frozen s name r) state
+  freeze_again state name (Err e) is some = absurd (cc)
+  freeze_again state name (Ok version) is some = command_again state (command.Freeze name version) (is, tt) some
+
+  target_again : (state : State) (r : Route) (name : List ℕ) (number : ℕ) (body : List ℕ) → IsName name
+      → Again (λ s. judged_on s r name number body) state
+  target_again state route.PutTrace name number body is some = trace_again state name body (csv_trace body) is refl some
+  target_again state route.PutDraft name number body is some = draft_again state name body (stated body) is refl some
+  target_again state route.PostVersion name number body is some = freeze_again state name (stated_in freeze_of body) is some
+  target_again state route.GetTrace name version body is some = absurd (cc)
+  target_again state route.GetMethod name version body is some = absurd (cc)
+
+  method_again : (state : State) (t : Target) (method body : List ℕ) (same : Bool) → IsName t.name → bytes_eq method (method_on t.route) ≡ same
+      → Again (λ s. judged_method s t method body) state
+  method_again state t method body true named is some = rw is (target_again state t.route t.name t.number body named (rw is at some))
+  method_again state t method body false named is some = absurd (let no = rw is at some in cc)
+
+  -- the request is judged as unchanged
+  pub repeated : (state : State) (m : Message) (moment again : ℕ) → IsTrue (is_some (change_of (judged state m moment)))
+      → IsUnchanged (judged (after_change state (change_of (judged state m moment))) m again)
+  repeated state m moment again = on (target_of m.target) (target_named m.target)
+    where
+      on : (t : Option Target) → IfSome t (λ named. IsName named.name) → Again (λ s. judged_route s t m.method m.body) state
+      on None is some = absurd (cc)
+      on (Some t) is some = method_again state t m.method m.body (bytes_eq m.method (method_on t.route)) is refl some
 
 -- ---- refusals
 
 -- what was judged is no refusal, or makes no change
 abbrev Unmade : Judged → Type 0
-Unmade j = 400 ≤ j.reply.status → j.change ≡ None
+Unmade j = 400 ≤ (reply_of j).status → change_of j ≡ None
 
-decided_unmade : (p : Result Plan PlanError) (same made : Reply) → made.status ≤ 201 → Unmade (decided p same made)
-decided_unmade (Ok plan.Unchanged) same made low is = refl
-decided_unmade (Ok (plan.Change c)) same made low is = absurd (omega (arith, is, low))
-decided_unmade (Err e) same made low is = refl
+made_low : (state : State) (asked : Command) → made_status state asked ≤ 201
+made_low state (command.Trace name signal) = omega arith
+made_low state (command.Freeze name version) = omega arith
+made_low state (command.Events name edition row events) = omega arith
+made_low state (command.Rebind name edition version) = omega arith
+made_low state (command.Sign sequence number basis moment name meaning text) = omega arith
+made_low state (command.Sequence name edition method version standards rows) = low (sequence_of state.tables name)
+  where
+    low : (s : Option Sequence) → sequence_status s ≤ 201
+    low None = omega arith
+    low (Some s) = omega arith
+made_low state (command.Draft name text) = low (draft_of state.tables name)
+  where
+    low : (draft : Option (List ℕ)) → draft_status draft ≤ 201
+    low None = omega arith
+    low (Some draft) = omega arith
 
-trace_unmade : (tables : TablesState) (name : List ℕ) (r : Result Signal TraceError) → Unmade (trace_put tables name r)
-trace_unmade tables name (Ok signal) = decided_unmade (planned tables (command.Trace name signal)) _ _ (omega arith)
-trace_unmade tables name (Err e) = λ is. refl
+decided_unmade : (state : State) (asked : Command) (p : Result Plan PlanError) → Unmade (decided state asked p)
+decided_unmade state asked (Ok plan.Unchanged) is = refl
+decided_unmade state asked (Ok (plan.Change c)) is = absurd (omega (arith, is, made_low state (command_of c)))
+decided_unmade state asked (Err e) is = refl
 
-draft_low : (draft : Option (List ℕ)) → draft_status draft ≤ 201
-draft_low None = omega arith
-draft_low (Some draft) = omega arith
+command_unmade : (state : State) (asked : Command) → Unmade (commanded state asked)
+command_unmade state asked = decided_unmade state asked (planned state.tables asked)
 
-draft_unmade : (tables : TablesState) (name text : List ℕ) (r : Result Fields MethodError) → Unmade (draft_put tables name text r)
-draft_unmade tables name text (Ok method) = decided_unmade (planned tables (command.Draft name text)) _ _ (draft_low (draft_of tables name))
-draft_unmade tables name text (Err e) = λ is. refl
+trace_unmade : (state : State) (name : List ℕ) (r : Result Signal TraceError) → Unmade (trace_put state name r)
+trace_unmade state name (Ok signal) = command_unmade state (command.Trace name signal)
+trace_unmade state name (Err e) = λ is. refl
 
-freeze_unmade : (tables : TablesState) (name : List ℕ) (r : Result ℕ BodyError) → Unmade (draft_frozen tables name r)
-freeze_unmade tables name (Ok version) = decided_unmade (planned tables (command.Freeze name version)) _ _ (omega arith)
-freeze_unmade tables name (Err e) = λ is. refl
+draft_unmade : (state : State) (name text : List ℕ) (r : Result Fields MethodError) → Unmade (draft_put state name text r)
+draft_unmade state name text (Ok method) = command_unmade state (command.Draft name text)
+draft_unmade state name text (Err e) = λ is. refl
 
-target_unmade : (tables : TablesState) (t : Target) (body : List ℕ) → Unmade (judged_target tables t body)
-target_unmade tables (target.Trace name) body = trace_unmade tables name (csv_trace body)
-target_unmade tables (target.Draft name) body = draft_unmade tables name body (stated body)
-target_unmade tables (target.MethodVersions name) body = freeze_unmade tables name (stated_in freeze_of body)
-target_unmade tables (target.TraceVersion name version) body = λ is. shown_only 1 name version (trace_versions_of tables name) content.Csv (option_map csv_text (trace_of tables name version))
-target_unmade tables (target.MethodVersion name version) body = λ is. shown_only 2 name version (method_versions_of tables name) content.Toml (method_of tables name version)
+freeze_unmade : (state : State) (name : List ℕ) (r : Result ℕ BodyError) → Unmade (draft_frozen state name r)
+freeze_unmade state name (Ok version) = command_unmade state (command.Freeze name version)
+freeze_unmade state name (Err e) = λ is. refl
 
-method_unmade : (tables : TablesState) (t : Target) (method body : List ℕ) (same : Bool) → bytes_eq method (method_on (route_of t)) ≡ same → Unmade (judged_method tables t method body)
-method_unmade tables t method body true is = rw is (target_unmade tables t body)
-method_unmade tables t method body false is = rw is (λ high. refl)
+target_unmade : (state : State) (r : Route) (name : List ℕ) (number : ℕ) (body : List ℕ) → Unmade (judged_on state r name number body)
+target_unmade state route.PutTrace name number body = trace_unmade state name (csv_trace body)
+target_unmade state route.PutDraft name number body = draft_unmade state name body (stated body)
+target_unmade state route.PostVersion name number body = freeze_unmade state name (stated_in freeze_of body)
+target_unmade state route.GetTrace name version body = λ is. refl
+target_unmade state route.GetMethod name version body = λ is. refl
+
+method_unmade : (state : State) (t : Target) (method body : List ℕ) (same : Bool) → bytes_eq method (method_on t.route) ≡ same → Unmade (judged_method state t method body)
+method_unmade state t method body true is = rw is (target_unmade state t.route t.name t.number body)
+method_unmade state t method body false is = rw is (λ high. refl)
 
 -- a refused request makes no change
-pub unmade : (tables : TablesState) (m : Message) (moment : ℕ) → 400 ≤ (judged tables m moment).reply.status → (judged tables m moment).change ≡ None
-unmade tables m moment = on (target_of m.target)
+pub unmade : (state : State) (m : Message) (moment : ℕ) → 400 ≤ (reply_of (judged state m moment)).status → change_of (judged state m moment) ≡ None
+unmade state m moment = on (target_of m.target)
   where
-    on : (t : Option Target) → Unmade (judged_route tables t m.method m.body)
+    on : (t : Option Target) → Unmade (judged_route state t m.method m.body)
     on None = λ is. refl
-    on (Some t) = method_unmade tables t m.method m.body (bytes_eq m.method (method_on (route_of t))) refl
+    on (Some t) = method_unmade state t m.method m.body (bytes_eq m.method (method_on t.route)) refl

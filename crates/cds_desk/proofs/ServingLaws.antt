@@ -1,5 +1,5 @@
 -- What was read, served and written so far, and what that comes to at the end.
-use Rattle.std.proofs.Common.{◌≡◌, ℕ, zero, suc, ◌+◌, ◌-◌, ◌*◌, ◌^◌, ◌<◌, ◌≤◌, Bool, true, false, ◌||◌, if◌then◌else◌, List, [], ◌∷◌, ◌++◌, length, Option, Some, None, refl, sym, ap, ◌∙◌, subst, inl, inr, append_assoc, append-nil, length-append, length-drop, arith}
+use Rattle.std.proofs.Common.{◌≡◌, ℕ, zero, suc, ◌+◌, ◌*◌, ◌^◌, ◌<◌, ◌≤◌, Bool, true, false, ◌||◌, if◌then◌else◌, List, [], ◌∷◌, ◌++◌, length, Option, Some, None, refl, sym, ap, ◌∙◌, subst, inl, inr, append_assoc, append-nil, length-append, length-drop, arith}
 use Rattle.std.specs.Prelude.{◌⊎◌, IfSome, option_map}
 use Rattle.cds_base.specs.Told.{then_more, more_before}
 use Rattle.cds_base.proofs.ToldLaws.{then_more_twice, more_before_twice}
@@ -10,10 +10,12 @@ use Rattle.cds_http.specs.declared.next.Fault.{Fault}
 use Rattle.cds_http.specs.declared.next.Next.{Next}
 use Rattle.cds_http.specs.declared.next.Next.TheVariants as next
 use Rattle.cds_http.specs.declared.next.Request.{Request}
-use Rattle.cds_desk.specs.Sending.{HoldsPart}
-use Rattle.cds_book.specs.Tables.{TablesState}
+use Rattle.cds_keep.specs.Found.{Found}
+use Rattle.cds_keep.specs.Told.{KeeperTold}
+use Rattle.cds_respond.specs.Sending.{HoldsPart}
+use Rattle.cds_desk.specs.State.{State}
 use Rattle.cds_desk.specs.Service.{Outcome, ServesItem, Serves, followed_by, writes}
-use Rattle.cds_desk.specs.Serving.{World, Reading, reading, Changed, Read, ReadOn, ItemServed, ItemBroken, Served, is_refused, is_closed, IsDone, IsRefused, IsSourceFailed, IsSinkFailed, EndsAs, AreServed, InAll}
+use Rattle.cds_desk.specs.Serving.{Lasting, World, Reading, reading, Changed, FindsOn, Read, ReadOn, ItemServed, ItemBroken, Served, is_refused, is_closed, IsDone, IsRefused, IsSourceFailed, IsSinkFailed, EndsAs, AreServed, InAll}
 use Rattle.cds_desk.specs.declared.serving.Ended.{Ended}
 use Rattle.cds_desk.specs.declared.serving.Ended.TheVariants.{Done, Refused, SinkFailed}
 use Rattle.cds_desk.proofs.ToldItems.{Told, told_nothing, told_fed, told_more, told_answer, told_continue, told_request, items_so_far, items_with, begins_with}
@@ -50,20 +52,29 @@ kept-twice (Some list) a b = ap Some (append_assoc list a b)
 -- ---- outcomes, one after the other
 
 -- nothing changed but what is written
-pub changed_nothing : (w : World) (text : List ℕ) (written : Option (List ℕ)) → Changed w (record w { written = written }) (writes w.tables text)
-changed_nothing w text written = record {
-  content = sym (kept-nil w.content);
-  tables = refl;
+pub changed_nothing : (l : Lasting) (text : List ℕ) → Changed l l (writes l.state text)
+changed_nothing l text = record {
+  content = sym (kept-nil l.keeper.content);
+  state = refl;
+  puts = omega arith;
   failures = omega arith;
   untouched = λ _. refl;
 }
 
-changed_then : (a b c : World) (first second : Outcome) → Changed a b first → Changed b c second → Changed a c (followed_by first second)
+changed_then : (a b c : Lasting) (first second : Outcome) → Changed a b first → Changed b c second → Changed a c (followed_by first second)
 changed_then a b c first second x y = record {
-  content = y.content ∙ ap (option_map (λ list. list ++ second.records)) x.content ∙ kept-twice a.content first.records second.records;
-  tables = y.tables;
+  content = y.content ∙ ap (option_map (λ list. list ++ second.records)) x.content ∙ kept-twice a.keeper.content first.records second.records;
+  state = y.state;
+  puts = omega (arith, x.puts, y.puts);
   failures = omega (arith, x.failures, y.failures);
   untouched = λ none. y.untouched (omega (arith, none)) ∙ x.untouched (omega (arith, none));
+}
+
+-- what a load finds keeps step over two stretches, one after the other
+pub finds_then : (f g h : Option Found) (a b c : KeeperTold) → a.faults ≤ b.faults → b.faults ≤ c.faults → FindsOn f g a b → FindsOn g h b c → FindsOn f h a c
+finds_then f g h a b c up on x y = record {
+  more = λ was. y.more (x.more was);
+  exactly = λ same below was. y.exactly (omega (arith, same, up, on)) below (x.exactly (omega (arith, same, up, on)) (omega (arith, below, on)) was);
 }
 
 -- ---- items, one after the other
@@ -76,9 +87,9 @@ served_then (x ∷ items) item a b c all one = (all.0, all.1, served_then items 
 -- items that were served have one outcome in all
 pub in_all : (items : List Item) (before now : World) → AreServed before items now → InAll before now items
 in_all [] before now same = record {
-  outcome = writes before.tables [];
+  outcome = writes before.lasting.state [];
   serves = refl;
-  changed = subst (λ (w : World). Changed before w (writes before.tables [])) (sym same) (changed_nothing before [] before.written);
+  changed = subst (λ (w : World). Changed before.lasting w.lasting (writes before.lasting.state [])) (sym same) (changed_nothing before.lasting []);
   written = ap (λ (w : World). w.written) same ∙ sym (then_more-nil before.written);
 }
 in_all (item ∷ items) before now all =
@@ -86,8 +97,8 @@ in_all (item ∷ items) before now all =
     let rest = in_all items all.0 now all.2 in
     record {
       outcome = followed_by one.outcome rest.outcome;
-      serves = (one.outcome, rest.outcome, one.serves, subst (λ (t : TablesState). Serves t items rest.outcome) one.changed.tables rest.serves, refl);
-      changed = changed_then before all.0 now one.outcome rest.outcome one.changed rest.changed;
+      serves = (one.outcome, rest.outcome, one.serves, subst (λ (t : State). Serves t items rest.outcome) one.changed.state rest.serves, refl);
+      changed = changed_then before.lasting all.0.lasting now.lasting one.outcome rest.outcome one.changed rest.changed;
       written = rest.written ∙ ap (λ (k : Option (List ℕ)). then_more k rest.outcome.written) one.written ∙ then_more_twice before.written one.outcome.written rest.outcome.written;
     }
 
@@ -226,22 +237,22 @@ so_far_request w n after from to m r keeps fits first adds s served =
     so_far_served w n after from to m (dropped m r) (request (message_of m.bytes r)) s served refl keeps (told_request s.bytes s.items m r keeps fits first adds s.told)
 
 -- text is written for an item, and nothing else happens
-pub item_written : (n : World) (item : Item) (text : List ℕ) (written : Option (List ℕ)) → ServesItem n.tables item (writes n.tables text) → written ≡ then_more n.written text
+pub item_written : (n : World) (item : Item) (text : List ℕ) (written : Option (List ℕ)) → ServesItem n.lasting.state item (writes n.lasting.state text) → written ≡ then_more n.written text
     → ItemServed n (record n { written = written }) item
 item_written n item text written serves is = record {
-  outcome = writes n.tables text;
+  outcome = writes n.lasting.state text;
   serves = serves;
-  changed = changed_nothing n text written;
+  changed = changed_nothing n.lasting text;
   written = is;
 }
 
 -- the sink failed in the text of an item, and nothing else happened
-pub item_broken : (n : World) (item : Item) (text : List ℕ) (written : Option (List ℕ)) → ServesItem n.tables item (writes n.tables text) → HoldsPart n.written written text
+pub item_broken : (n : World) (item : Item) (text : List ℕ) (written : Option (List ℕ)) → ServesItem n.lasting.state item (writes n.lasting.state text) → HoldsPart n.written written text
     → ItemBroken n (record n { written = written }) item
 item_broken n item text written serves front = record {
-  outcome = writes n.tables text;
+  outcome = writes n.lasting.state text;
   serves = serves;
-  changed = changed_nothing n text written;
+  changed = changed_nothing n.lasting text;
   written = front;
 }
 
@@ -256,18 +267,22 @@ served_all w n from to m ended s are whole = record {
   whole = whole;
   are_items = are;
   served = s.served;
+  in_all = in_all s.items w n s.served;
 }
 
 -- all that came was served, and one more item behind it
 served_more : (w n after : World) (from to : Reading) (m : Stream) (ended : Bool) (item : Item) (s : SoFar w n from to m) → ItemServed n after item
     → HasItems s.bytes ended (s.items ++ item ∷ []) → (ended ≡ true → IfSome to.left (λ rest. rest ≡ [])) → Served w after from to ended (s.items ++ item ∷ [])
-served_more w n after from to m ended item s served are whole = record {
-  bytes = s.bytes;
-  read = s.read;
-  whole = whole;
-  are_items = are;
-  served = served_then s.items item w n after s.served served;
-}
+served_more w n after from to m ended item s served are whole =
+    let all = served_then s.items item w n after s.served served in
+    record {
+      bytes = s.bytes;
+      read = s.read;
+      whole = whole;
+      are_items = are;
+      served = all;
+      in_all = in_all (s.items ++ item ∷ []) w after all;
+    }
 
 -- the source ended, and nothing but empty lines was left
 pub done_at_end : (w n : World) (from to : Reading) (m : Stream) → SoFar w n from to m → ItemsFrom m [] true [] → IfSome to.left (λ rest. rest ≡ []) → IsDone w n from to
@@ -313,6 +328,7 @@ broken_at w n after from to m item first s broken = record {
   begins = begins_with s.bytes s.items m item s.told first;
   between = n;
   served = s.served;
+  in_all = in_all s.items w n s.served;
   broken = broken;
 }
 
@@ -330,6 +346,7 @@ broken_at_end w n after from to m f last whole s broken = record {
       ([], same ∙ sym (append-nil (s.items ++ fault f ∷ [])));
   between = n;
   served = s.served;
+  in_all = in_all s.items w n s.served;
   broken = broken;
 }
 

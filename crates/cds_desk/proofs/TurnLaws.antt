@@ -1,89 +1,169 @@
 -- What the turn of a request comes to.
-use Rattle.std.proofs.Common.{◌≡◌, ℕ, List, Option, Result, Ok, Err, refl, sym, ap, ◌∙◌, arith}
-use Rattle.std.specs.Prelude.{OnOk, OnErr, bytes_eq, codes}
+use Rattle.std.proofs.Common.{◌≡◌, ℕ, ◌+◌, ◌^◌, ◌<◌, ◌≤◌, length, List, Option, Some, None, Result, Ok, Err, refl, sym, ap, ◌∙◌, subst, inl, arith}
+use Rattle.std.specs.Prelude.{OnOk, OnErr, IfSome, bytes_eq, codes, min, option_map}
+use Rattle.cds_base.specs.Faults.{Rose, most_faults}
 use Rattle.cds_base.specs.Told.{then_more}
-use Rattle.cds_book.specs.Tables.{TablesState}
-use Rattle.cds_book.specs.declared.command.Change.{Change}
-use Rattle.cds_codec.specs.Record.{HasRecord}
-use Rattle.cds_codec.proofs.Accepted.{HasRecord-accepted}
+use Rattle.cds_desk.specs.State.{State}
+use Rattle.cds_sign.specs.declared.command.Change.{Change}
+use Rattle.cds_book.specs.Plan.{command_of, IsCommand}
+use Rattle.cds_codec.specs.Record.{carried_text}
+use Rattle.cds_keep.specs.declared.keeper.TheConstants.{RECORD_LIMIT}
+use Rattle.cds_sign.specs.Ranges.{IsChange}
+use Rattle.cds_sign.specs.declared.command.Change.TheVariants as changes
 use Rattle.cds_http.specs.Items.{Message, request}
-use Rattle.cds_desk.specs.Response.{response_text}
-use Rattle.cds_desk.specs.Sending.{HoldsPart}
-use Rattle.cds_desk.specs.Service.{Outcome, ServesItem, turn, served, no_memory, keeper_failed}
-use Rattle.cds_desk.specs.Serving.{World, world, Changed, ItemServed, ItemBroken}
-use Rattle.cds_desk.specs.Step.{IsPlanned, judged}
-use Rattle.cds_desk.specs.Turn.{Asks, Comes, judged_of, answered_text}
+use Rattle.cds_keep.specs.Found.{Found, records, FindsContent, FindsOneMoreAtMost}
+use Rattle.cds_keep.specs.Told.{KeeperTold}
+use Rattle.cds_respond.specs.Response.{response_text}
+use Rattle.cds_respond.specs.Sending.{HoldsPart}
+use Rattle.cds_desk.specs.Service.{Outcome, ServesItem, turn, puts_for, unused, served, no_memory, not_kept, keeper_failed}
+use Rattle.cds_desk.specs.Serving.{Lasting, Changed, FindsOn, ItemServed, ItemBroken}
+use Rattle.cds_desk.specs.Judged.{reply_of, change_of}
+use Rattle.cds_desk.specs.Commands.{IsPlanned, IsRouted}
+use Rattle.cds_desk.proofs.CommandLaws.{method_length}
+use Rattle.cds_desk.specs.Step.{judged}
+use Rattle.cds_desk.specs.Turn.{Asks, Comes, judged_of, calls_after, answered_text}
 use Rattle.cds_desk.specs.declared.turn.Answered.{Answered}
-use Rattle.cds_desk.specs.declared.turn.Answered.TheVariants.{Response, NoMemory, KeeperFailed}
+use Rattle.cds_desk.specs.declared.turn.Answered.TheVariants.{Response, NoMemory, NotKept, KeeperFailed}
 use Rattle.cds_desk.specs.declared.turn.Asked.{Asked}
 use Rattle.cds_desk.proofs.ServingLaws.{kept-nil}
 
 -- what comes of a request is the outcome of its turn, with the text that is written
-record Came (before now : World) (m : Message) (text : List ℕ) : Type 0 where
+record Came (before now : Lasting) (m : Message) (text : List ℕ) : Type 0 where
   outcome : Outcome
-  serves : ServesItem before.tables (request m) outcome
+  serves : ServesItem before.state (request m) outcome
   changed : Changed before now outcome
   text_is : text ≡ outcome.written
 
-came : (before now : World) (m : Message) (a : Answered)
-    → Comes before now (judged before.tables m 0) (response_text (judged before.tables m 0).reply m.close (bytes_eq m.method (codes "HEAD"))) a
+-- the record of a change was put once
+counted : (change : Option Change) (before now : ℕ) → now ≡ calls_after change before → min (before + puts_for change) most_faults ≡ min now most_faults
+counted None before now is = omega (arith, is)
+counted (Some change) before now is = omega (arith, is)
+
+came : (before now : Lasting) (m : Message) (a : Answered)
+    → Comes before now (judged before.state m 0) (response_text (reply_of (judged before.state m 0)) m.close (bytes_eq m.method (codes "HEAD"))) a
     → Came before now m (answered_text a m.close (bytes_eq m.method (codes "HEAD")))
 came before now m (Response response) c = record {
-  outcome = turn before.tables m (served 0);
-  serves = (served 0, tt, refl);
-  changed = record { content = c.2; tables = c.1; failures = omega (arith, c.3); untouched = λ _. c.3 };
+  outcome = turn before.state m (served 0 unused);
+  serves = (served 0 unused, refl, refl);
+  changed = record {
+    content = c.2;
+    state = c.1;
+    puts = counted (change_of (judged before.state m 0)) before.keeper.calls now.keeper.calls c.4;
+    failures = omega (arith, c.3);
+    untouched = λ _. c.3;
+  };
   text_is = c.0;
 }
 came before now m NoMemory c = record {
-  outcome = turn before.tables m no_memory;
-  serves = (no_memory, tt, refl);
-  changed = record { content = c.1 ∙ sym (kept-nil before.content); tables = c.0; failures = omega (arith, c.2); untouched = λ _. c.2 };
+  outcome = turn before.state m (no_memory unused);
+  serves = (no_memory unused, refl, refl);
+  changed = subst (λ (l : Lasting). Changed before l (turn before.state m (no_memory unused))) (sym c) (record {
+    content = sym (kept-nil before.keeper.content);
+    state = refl;
+    puts = omega arith;
+    failures = omega arith;
+    untouched = λ _. refl;
+  });
+  text_is = refl;
+}
+came before now m NotKept c = record {
+  outcome = turn before.state m (not_kept unused);
+  serves = (not_kept unused, (refl, (0, c.0)), refl);
+  changed = record { content = c.2 ∙ sym (kept-nil before.keeper.content); state = c.1; puts = omega (arith, c.4); failures = omega (arith, c.3); untouched = λ _. c.3 };
   text_is = refl;
 }
 came before now m KeeperFailed c = record {
-  outcome = turn before.tables m keeper_failed;
-  serves = (keeper_failed, (0, c.0), refl);
-  changed = record { content = c.2 ∙ sym (kept-nil before.content); tables = c.1; failures = c.3; untouched = λ none. absurd (cc) };
+  outcome = turn before.state m (keeper_failed unused);
+  serves = (keeper_failed unused, (refl, (0, c.0)), refl);
+  changed = record { content = c.2 ∙ sym (kept-nil before.keeper.content); state = c.1; puts = omega (arith, c.4); failures = c.3; untouched = λ none. absurd (cc) };
   text_is = refl;
 }
 
 -- what was asked is judged as the message is
-asked_judged : (tables : TablesState) (asked : Asked) (m : Message) → Asks asked m → judged_of tables asked ≡ judged tables m 0
-asked_judged tables asked m asks = rw (asks.method, asks.target, asks.body) refl
+asked_judged : (state : State) (asked : Asked) (m : Message) → Asks asked m → judged_of state asked ≡ judged state m 0
+asked_judged state asked m asks = rw (asks.method, asks.target, asks.body) refl
 
-module _ {A E : Type 0} (r : Result A E) (w v : Option (List ℕ)) (c d : Option (List (List ℕ))) (f e : ℕ) (t u : TablesState) (asked : Asked) (m : Message) (a : Answered) (asks : Asks asked m)
-    (comes : (written : Option (List ℕ)) → Comes (world written c f t) (world written d e u) (judged_of t asked) (response_text (judged_of t asked).reply asked.close asked.without_body) a) where
-  it_came : Came (world w c f t) (world w d e u) m (answered_text a m.close (bytes_eq m.method (codes "HEAD")))
-  it_came =
-      came (world w c f t) (world w d e u) m a
-      (rw (← asked_judged t asked m asks, ← asks.close, ← asks.without_body) (comes w))
+module _ {A E : Type 0} (r : Result A E) (w v : Option (List ℕ)) (before now : Lasting) (asked : Asked) (m : Message) (a : Answered) (asks : Asks asked m)
+    (comes : Comes before now (judged_of before.state asked) (response_text (reply_of (judged_of before.state asked)) asked.close asked.without_body) a) where
+  it_came : Came before now m (answered_text a m.close (bytes_eq m.method (codes "HEAD")))
+  it_came = came before now m a (rw (← asked_judged before.state asked m asks, ← asks.close, ← asks.without_body) comes)
 
   -- the answer was written whole
-  pub served_ok : OnOk r (v ≡ then_more w (answered_text a asked.close asked.without_body)) → OnOk r (ItemServed (world w c f t) (world v d e u) (request m))
+  pub served_ok : OnOk r (v ≡ then_more w (answered_text a asked.close asked.without_body))
+      → OnOk r (ItemServed (record { written = w; lasting = before }) (record { written = v; lasting = now }) (request m))
   served_ok = on r
     where
-      on : (r : Result A E) → OnOk r (v ≡ then_more w (answered_text a asked.close asked.without_body)) → OnOk r (ItemServed (world w c f t) (world v d e u) (request m))
+      on : (r : Result A E) → OnOk r (v ≡ then_more w (answered_text a asked.close asked.without_body))
+          → OnOk r (ItemServed (record { written = w; lasting = before }) (record { written = v; lasting = now }) (request m))
       on (Err x) h = tt
       on (Ok x) h = record {
         outcome = it_came.outcome;
         serves = it_came.serves;
-        changed = record { content = it_came.changed.content; tables = it_came.changed.tables; failures = it_came.changed.failures; untouched = it_came.changed.untouched };
+        changed = it_came.changed;
         written = h ∙ ap (then_more w) ((rw (asks.close, asks.without_body) refl) ∙ it_came.text_is);
       }
 
   -- a front of the answer was written
-  pub broken_err : OnErr r (HoldsPart w v (answered_text a asked.close asked.without_body)) → OnErr r (ItemBroken (world w c f t) (world v d e u) (request m))
+  pub broken_err : OnErr r (HoldsPart w v (answered_text a asked.close asked.without_body))
+      → OnErr r (ItemBroken (record { written = w; lasting = before }) (record { written = v; lasting = now }) (request m))
   broken_err = on r
     where
-      on : (r : Result A E) → OnErr r (HoldsPart w v (answered_text a asked.close asked.without_body)) → OnErr r (ItemBroken (world w c f t) (world v d e u) (request m))
+      on : (r : Result A E) → OnErr r (HoldsPart w v (answered_text a asked.close asked.without_body))
+          → OnErr r (ItemBroken (record { written = w; lasting = before }) (record { written = v; lasting = now }) (request m))
       on (Ok x) h = tt
       on (Err x) h = record {
         outcome = it_came.outcome;
         serves = it_came.serves;
-        changed = record { content = it_came.changed.content; tables = it_came.changed.tables; failures = it_came.changed.failures; untouched = it_came.changed.untouched };
+        changed = it_came.changed;
         written = rw (asks.close, asks.without_body, it_came.text_is) at h;
       }
 
 -- a change that is planned has a record
-pub planned_has_record : (tables : TablesState) (change : Change) → IsPlanned tables change → HasRecord change
-planned_has_record tables change planned = HasRecord-accepted tables change planned.content planned.accepts
+pub planned_has_record : (state : State) (change : Change) → IsPlanned state change → IsChange change
+planned_has_record state change planned = planned.content
+
+short : (change : Change) → IsCommand (command_of change) → IsRouted (command_of change) → length (carried_text change) + 2 ^ 22 < RECORD_LIMIT
+short (changes.Trace name signal) may is = omega arith
+short (changes.Draft name text) may is = let few = method_length text may.1 in omega (arith, few)
+short (changes.Freeze name version) may is = omega arith
+short (changes.Sequence name edition method version standards rows) may is = absurd is
+short (changes.Events name edition row events) may is = absurd is
+short (changes.Rebind name edition version) may is = absurd is
+short (changes.Sign sequence number basis moment name meaning text) may is = absurd is
+
+-- and a short one
+pub planned_short : (state : State) (change : Change) (bytes : List ℕ) → IsPlanned state change
+    → length bytes ≤ length (carried_text change) + 2 ^ 22 → length bytes < RECORD_LIMIT
+planned_short state change bytes planned few =
+    let most = short change planned.accepts.command planned.routed in
+    omega (arith, few, most)
+
+-- ---- what a load finds after a turn
+
+-- what is found exactly is found with one more record at most
+pub at_most : (found : Option Found) (content : Option (List (List ℕ))) → FindsContent found content → FindsOneMoreAtMost found content
+at_most None content h = tt
+at_most (Some f) None h = tt
+at_most (Some f) (Some list) h = inl h
+
+-- nothing was kept
+pub finds_same : (found now : Option Found) (before after : KeeperTold) → now ≡ found → after.content ≡ before.content → FindsOn found now before after
+finds_same found now before after same content = record {
+  more = λ was. rw (same, content) was;
+  exactly = λ _ _ was. rw (same, content) was;
+}
+
+-- a record was kept
+pub finds_put : (found now : Option Found) (before after : KeeperTold) → IfSome now (λ f. Some f ≡ option_map records after.content) → FindsOn found now before after
+finds_put found now before after h =
+    let exact = of_content now after.content h in
+    record { more = λ _. at_most now after.content exact; exactly = λ _ _ _. exact }
+  where
+    of_content : (now : Option Found) (content : Option (List (List ℕ))) → IfSome now (λ f. Some f ≡ option_map records content) → FindsContent now content
+    of_content None content h = tt
+    of_content (Some f) None h = tt
+    of_content (Some f) (Some list) h = cc
+
+-- the keeper failed
+pub finds_failed : (found now : Option Found) (before after : KeeperTold) → FindsOneMoreAtMost now after.content → Rose before.faults after.faults → FindsOn found now before after
+finds_failed found now before after h rose = record { more = λ _. h; exactly = λ same below _. absurd (omega (arith, same, below, rose)) }

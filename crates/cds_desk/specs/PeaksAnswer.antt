@@ -1,5 +1,6 @@
 -- What `cds peaks` answers to the bytes of its source. This project's own format.
-use Rattle.std.specs.Prelude.{ℕ, ◌++◌, List, [], codes, decimal, Option, Some, None, Result, Ok, Err, nat_lt, length, unwrap_or, if◌then◌else◌}
+use Rattle.std.specs.Prelude.{ℕ, ◌++◌, List, [], codes, decimal, Option, Some, None, Result, Ok, Err, nat_lt, length}
+use Rattle.std.specs.Prelude.{unwrap_or, if◌then◌else◌}
 use Rattle.cds_trace.specs.Refusal.{number_of_refusal, record_of_refusal}
 use Rattle.cds_trace.specs.Signal.{Signal}
 use Rattle.cds_trace.specs.TraceText.{csv_trace}
@@ -7,8 +8,10 @@ use Rattle.cds_trace.specs.declared.error.TraceError.{TraceError}
 use Rattle.cds_detect.specs.Classes.{Settings}
 use Rattle.cds_detect.specs.Raw.{raw_peaks_of, answer_of}
 use Rattle.cds_report.specs.PeaksText.{peaks_text}
-use Rattle.cds_desk.specs.declared.receiving.TheConstants.{MOST_SOURCE_BYTES}
+use Rattle.cds_respond.specs.declared.receiving.TheConstants.{MOST_SOURCE_BYTES}
 use Rattle.cds_desk.specs.declared.answer.Answer.{Answer}
+use Rattle.cds_desk.specs.declared.answer.TheConstants.{TOO_MANY_BYTES}
+use Rattle.cds_desk.specs.declared.status.Status.TheVariants.{Done, Refused}
 use Rattle.cds_desk.specs.declared.words.PeaksOptions.{PeaksOptions}
 
 -- by what peaks are found with these options: no timed event changes anything
@@ -25,16 +28,20 @@ abbrev pub refusal_line : ℕ → Option ℕ → List ℕ
 refusal_line number None = codes "refused " ++ decimal number ++ codes "\n"
 refusal_line number (Some at) = codes "refused " ++ decimal number ++ codes " record " ++ decimal at ++ codes "\n"
 
--- a refusal of this number, with status 1
+-- a refusal of this number
 abbrev pub refusal : ℕ → Option ℕ → Answer
-refusal number at = record { status = 1; text = refusal_line number at }
+refusal number at = record { status = Refused; text = refusal_line number at }
 
--- the answer to a trace that is stated, with status 0, or to what is wrong with it; want of memory, which no bytes state, has the number 0
+-- the answer to a trace that is stated, or to what is wrong with it; want of memory, which no bytes state, has the
+-- number 0
 abbrev pub answer_to_trace : PeaksOptions → Result Signal TraceError → Answer
-answer_to_trace options (Ok signal) = record { status = 0; text = peaks_text (answer_of (raw_peaks_of signal (settings_of_options options))) }
+answer_to_trace options (Ok signal) =
+    record { status = Done; text = peaks_text (answer_of (raw_peaks_of signal (settings_of_options options))) }
 answer_to_trace options (Err error) = refusal (unwrap_or (number_of_refusal error) 0) (record_of_refusal error)
 
--- the answer to these bytes: more than a command reads are refused with number 9, whatever they are
+-- the answer to these bytes: more than a command reads are refused, whatever they are
 abbrev pub peaks_answer : PeaksOptions → List ℕ → Answer
 peaks_answer options bytes =
-    if nat_lt MOST_SOURCE_BYTES (length bytes) then refusal 9 None else answer_to_trace options (csv_trace bytes)
+    if nat_lt MOST_SOURCE_BYTES (length bytes)
+    then refusal TOO_MANY_BYTES None
+    else answer_to_trace options (csv_trace bytes)

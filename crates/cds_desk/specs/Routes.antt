@@ -1,5 +1,6 @@
--- Which route a request target fits, and what its path names. This project's own routes.
-use Rattle.std.specs.Prelude.{ℕ, Bool, ◌==◌, List, [], codes, get_or, Option, Some, None, Result, Ok, Err, if◌then◌else◌}
+-- The routes, which one a request target fits, and what its path names. This project's own routes.
+use Rattle.std.specs.Prelude.{ℕ, zero, suc, Bool, ◌==◌, List, [], ◌∷◌, ◌++◌, codes, get_or, is_some, Option, Some, None}
+use Rattle.std.specs.Prelude.{Result, Ok, Err, if◌then◌else◌}
 use Rattle.std.specs.List.{before_first, after_first}
 use Rattle.matchit.specs.Rows.{RowsOf}
 use Rattle.matchit.specs.Router.{RouteOf, route_from}
@@ -13,7 +14,6 @@ use Rattle.cds_desk.specs.declared.target.TheConstants.{MOST_PATH_NUMBER}
 use Rattle.cds_desk.specs.declared.routes.Route.{Route}
 use Rattle.cds_desk.specs.declared.routes.Route.TheVariants as route
 use Rattle.cds_desk.specs.declared.target.Target.{Target}
-use Rattle.cds_desk.specs.declared.target.Target.TheVariants as target
 
 -- ---- the table of the routes
 
@@ -33,6 +33,18 @@ method_of route.PutDraft = codes "PUT"
 method_of route.PostVersion = codes "POST"
 method_of route.GetMethod = codes "GET"
 
+-- the place of the number among the segments of its paths, if they have one; the name stands at place 2
+abbrev pub number_at : Route → Option ℕ
+number_at route.PutTrace = None
+number_at route.GetTrace = Some 3
+number_at route.PutDraft = None
+number_at route.PostVersion = None
+number_at route.GetMethod = Some 4
+
+-- all routes
+abbrev pub all_routes : List Route
+all_routes = route.PutTrace ∷ route.GetTrace ∷ route.PutDraft ∷ route.PostVersion ∷ route.GetMethod ∷ []
+
 -- the rows of `matchit` with one more, for a route whose pattern was read
 abbrev pub with_scan : Result Scan InsertError → Route → RowsOf (RouteOf Route) → RowsOf (RouteOf Route)
 with_scan (Ok scan) r rows = placed (scan.pattern, route_from scan r) rows
@@ -42,10 +54,14 @@ with_scan (Err e) r rows = rows
 abbrev pub with_route : Route → RowsOf (RouteOf Route) → RowsOf (RouteOf Route)
 with_route r rows = with_scan (parse_route (pattern_of r)) r rows
 
+-- the rows of `matchit` with the rows of these routes
+abbrev pub with_routes : List Route → RowsOf (RouteOf Route) → RowsOf (RouteOf Route)
+with_routes [] rows = rows
+with_routes (r ∷ rest) rows = with_routes rest (with_route r rows)
+
 -- the routes, as rows of `matchit`
 abbrev pub route_table : RowsOf (RouteOf Route)
-route_table =
-    with_route route.GetMethod (with_route route.PostVersion (with_route route.PutDraft (with_route route.GetTrace (with_route route.PutTrace []))))
+route_table = with_routes all_routes []
 
 -- ---- what a path names
 
@@ -59,48 +75,28 @@ is_question_mark b = b == 63
 abbrev pub path_of : List ℕ → List ℕ
 path_of t = before_first is_question_mark t
 
--- `{name}`, the second part of a path, as `flat` in `/traces/flat/3`
-abbrev pub name_part : List ℕ → List ℕ
-name_part path = before_first is_slash (after_first is_slash (after_first is_slash path))
-
--- what stands behind `{name}` and its slash, as `3` in `/traces/flat/3`
-abbrev pub behind_name : List ℕ → List ℕ
-behind_name path = after_first is_slash (after_first is_slash (after_first is_slash path))
-
--- what stands behind `versions` and its slash, as `3` in `/methods/m/versions/3`
-abbrev pub behind_versions : List ℕ → List ℕ
-behind_versions path = after_first is_slash (behind_name path)
+-- the segment of a path at a place, as `flat` at 2 in `/traces/flat/3`; at 0 stands what is before the first slash
+abbrev pub segment : List ℕ → ℕ → List ℕ
+segment path zero = before_first is_slash path
+segment path (suc place) = segment (after_first is_slash path) place
 
 -- a number of a path: 1 to 4,294,967,295 in decimal digits, without leading zeros
 abbrev pub path_number : List ℕ → Option ℕ
 path_number part = if get_or part 0 48 == 48 then None else number_in 1 MOST_PATH_NUMBER part
 
--- a version of a trace, where there is a number
-abbrev pub trace_version : List ℕ → Option ℕ → Option Target
-trace_version name (Some version) = Some (target.TraceVersion name version)
-trace_version name None = None
+-- the number that a path has at this place, and 0 where it has no place for one
+abbrev pub number_in_path : List ℕ → Option ℕ → Option ℕ
+number_in_path path (Some place) = path_number (segment path place)
+number_in_path path None = Some 0
 
--- a version of a method, where there is a number
-abbrev pub method_version : List ℕ → Option ℕ → Option Target
-method_version name (Some version) = Some (target.MethodVersion name version)
-method_version name None = None
-
--- what the path names on this route, with the name in it
-abbrev pub named : Route → List ℕ → List ℕ → Option Target
-named route.PutTrace path name = Some (target.Trace name)
-named route.GetTrace path name = trace_version name (path_number (behind_name path))
-named route.PutDraft path name = Some (target.Draft name)
-named route.PostVersion path name = Some (target.MethodVersions name)
-named route.GetMethod path name = method_version name (path_number (behind_versions path))
-
--- the same, where there is a name
-abbrev pub named_with : Route → List ℕ → Option (List ℕ) → Option Target
-named_with r path (Some name) = named r path name
-named_with r path None = None
+-- what is named on a route, where both the name and the number are there
+abbrev pub target_with : Route → Option (List ℕ) → Option ℕ → Option Target
+target_with r (Some name) (Some number) = Some (record { route = r; name = name; number = number })
+target_with r _ _ = None
 
 -- what the path names on this route
 abbrev pub named_on : Route → List ℕ → Option Target
-named_on r path = named_with r path (name_of (name_part path))
+named_on r path = target_with r (name_of (segment path 2)) (number_in_path path (number_at r))
 
 -- what the path names, where `matchit` found this route for it
 abbrev pub named_by : Option (RouteOf Route) → List ℕ → Option Target
@@ -111,10 +107,16 @@ named_by None path = None
 abbrev pub target_of : List ℕ → Option Target
 target_of t = named_by (first route_table (path_of t)) (path_of t)
 
--- the route of what a target names
-abbrev pub route_of : Target → Route
-route_of (target.Trace name) = route.PutTrace
-route_of (target.TraceVersion name version) = route.GetTrace
-route_of (target.Draft name) = route.PutDraft
-route_of (target.MethodVersions name) = route.PostVersion
-route_of (target.MethodVersion name version) = route.GetMethod
+-- ---- the way back
+
+-- the path of a route that is written with a name and the digits of a number
+abbrev pub path_with : Route → List ℕ → List ℕ → List ℕ
+path_with route.PutTrace name digits = codes "/traces/" ++ name
+path_with route.GetTrace name digits = codes "/traces/" ++ (name ++ (codes "/" ++ digits))
+path_with route.PutDraft name digits = codes "/methods/" ++ (name ++ codes "/draft")
+path_with route.PostVersion name digits = codes "/methods/" ++ (name ++ codes "/versions")
+path_with route.GetMethod name digits = codes "/methods/" ++ (name ++ (codes "/versions/" ++ digits))
+
+-- the number in the paths of a route that are written with this one: 0 where they have none
+abbrev pub number_of_path : Route → ℕ → ℕ
+number_of_path r number = if is_some (number_at r) then number else 0

@@ -1,38 +1,138 @@
--- What the top call does with the devices that it is given.
-use Rattle.std.specs.Prelude.{◌≡◌, ◌⊎◌, ℕ, ◌==◌, List, [], ◌∷◌, Option, IfSome, IsTrue, codes}
-use Rattle.std.specs.List.{list_any}
-use Rattle.cds_base.specs.Faults.{Rose}
+-- What each command leaves of the devices that it is given.
+use Rattle.std.specs.Prelude.{◌≡◌, ◌≢◌, ◌<◌, ◌≤◌, ℕ, true, false, List, [], Option, Some, None, IfSome, codes}
+use Rattle.cds_base.specs.Failing.{one_more}
+use Rattle.cds_base.specs.Faults.{Rose, most_faults}
+use Rattle.cds_base.specs.Sink.{SinkTold}
+use Rattle.cds_base.specs.Source.{SourceTold}
 use Rattle.cds_base.specs.Told.{then_more}
-use Rattle.cds_desk.specs.Sending.{HoldsPart}
-use Rattle.cds_desk.specs.Words.{options_of}
+use Rattle.cds_keep.specs.Found.{Found, FindsContent, FindsOneMoreAtMost}
+use Rattle.cds_keep.specs.Told.{KeeperTold}
+use Rattle.cds_respond.specs.Sending.{HoldsPart, Sent}
 use Rattle.cds_desk.specs.PeaksAnswer.{peaks_answer}
+use Rattle.cds_desk.specs.Serving.{reading}
+use Rattle.cds_desk.specs.Session.{SessionTold, session_told, SessionServed, damage_of, damaged_line}
+use Rattle.cds_desk.specs.Statuses.{is_served, ends_unserved, ends_peaks}
+use Rattle.cds_desk.specs.Words.{TopCommand, peaks, session}
 use Rattle.cds_desk.specs.declared.answer.Answer.{Answer}
+use Rattle.cds_desk.specs.declared.status.Status.{Status}
+use Rattle.cds_desk.specs.declared.status.Status.TheVariants.{Done, Refused, NoCommand, SourceFailed, SinkFailed}
+use Rattle.cds_desk.specs.declared.status.Status.TheVariants.{KeeperFailed, NoMemory, Damaged}
 use Rattle.cds_desk.specs.declared.words.PeaksOptions.{PeaksOptions}
 
--- the text stands whole behind what the sink held, or the sink failed and a front of it stands there
-abbrev pub Sent : Option (List ℕ) → Option (List ℕ) → ℕ → ℕ → List ℕ → Type 0
-Sent before now faults_before faults_now text = (now ≡ then_more before text) ⊎ (HoldsPart before now text × Rose faults_before faults_now)
+-- ---- the source and the sink
+
+-- the source and the sink of a command at one time, with what they tell
+pub record Streams (S W : Type 0) : Type 0 where
+  pub source : S
+  pub source_told : SourceTold
+  pub sink : W
+  pub sink_told : SinkTold
+
+-- source and sink as they are at one time
+abbrev pub streams : {S W : Type 0} → S → SourceTold → W → SinkTold → Streams S W
+streams source source_told sink sink_told =
+    record { source = source; source_told = source_told; sink = sink; sink_told = sink_told }
+
+-- What the end of a command tells of its source and its sink: a read that failed ends it as such, whatever the bytes
+-- are, and it ends so only after such a read; a sink is told to have failed only where it did.
+pub record StreamsEnd {S W : Type 0} (ended : Status) (before now : Streams S W) : Type 0 where
+  pub failed_read : ended ≢ SourceFailed → now.source_told.faults ≡ before.source_told.faults
+  pub source_failed : ended ≡ SourceFailed → Rose before.source_told.faults now.source_told.faults
+  pub sink_failed : ended ≡ SinkFailed → Rose before.sink_told.faults now.sink_told.faults
+  pub done_failed_no_write : ended ≡ Done → now.sink_told.faults ≡ before.sink_told.faults
+  pub no_memory_writes_nothing : ended ≡ NoMemory → now.sink ≡ before.sink
+  pub source_counts : before.source_told.faults ≤ now.source_told.faults
+  pub sink_counts : before.sink_told.faults ≤ now.sink_told.faults
+
+-- ---- `peaks`
 
 -- the fact of the answer of `peaks` with these options to these bytes, where the bytes are told
 abbrev pub OfBytes : PeaksOptions → Option (List ℕ) → (Answer → Type 0) → Type 0
 OfBytes options bytes P = IfSome bytes (λ b. P (peaks_answer options b))
 
--- the same with the options that the words state, where they state some
-abbrev pub OfAnswer : List (List ℕ) → Option (List ℕ) → (Answer → Type 0) → Type 0
-OfAnswer words bytes P = IfSome (options_of words) (λ options. OfBytes options bytes P)
+-- what `peaks` leaves
+pub record PeaksRan {S W : Type 0} (options : PeaksOptions) (ended : Status) (before now : Streams S W) : Type 0 where
+  pub ends : ends_peaks ended ≡ true
+  -- the whole table of the source's bytes, read to their end
+  pub done : ended ≡ Done → OfBytes options before.source_told.left (λ answer.
+      (answer.status ≡ Done) × (now.sink_told.written ≡ then_more before.sink_told.written answer.text))
+  pub read_to_the_end : ended ≡ Done → IfSome now.source_told.left (λ rest. rest ≡ [])
+  -- the line of the refusal, whole unless the sink failed
+  pub refused : ended ≡ Refused → OfBytes options before.source_told.left (λ answer. (answer.status ≡ Refused)
+      × Sent before.sink_told.written now.sink_told.written before.sink_told.faults now.sink_told.faults answer.text)
+  pub source_failed_writes_nothing : ended ≡ SourceFailed → now.sink ≡ before.sink
+  -- a front of the table
+  pub sink_failed_in_table : ended ≡ SinkFailed → OfBytes options before.source_told.left (λ answer.
+      (answer.status ≡ Done) × HoldsPart before.sink_told.written now.sink_told.written answer.text)
+
+-- ---- `session`
+
+-- the devices of a command at one time, with what they tell
+pub record Devices (S W K : Type 0) : Type 0 where
+  pub streams : Streams S W
+  pub keeper : K
+  pub keeper_told : KeeperTold
+  -- what a load of each store finds
+  pub finds : List ℕ → Option Found
+
+-- the devices as they are at one time
+abbrev pub devices : {S W K : Type 0} → Streams S W → K → KeeperTold → (List ℕ → Option Found) → Devices S W K
+devices s keeper keeper_told finds = record { streams = s; keeper = keeper; keeper_told = keeper_told; finds = finds }
+
+-- what the devices tell of a session over a store
+abbrev pub told_of : {S W K : Type 0} → List ℕ → Devices S W K → SessionTold
+told_of store d =
+    session_told (reading d.streams.source_told.given d.streams.source_told.left) d.streams.sink_told.written
+    (d.finds store) d.keeper_told
+
+-- a session over a store was served
+pub record SessionGone {S W K : Type 0} (store : List ℕ) (ended : Status) (before now : Devices S W K) : Type 0 where
+  pub served : SessionServed ended (told_of store before) (told_of store now)
+  pub stays_open : now.keeper_told.is_open ≡ true
+  -- what the next load finds, under any name
+  pub finds_more : (name : List ℕ) → FindsOneMoreAtMost (now.finds name) now.keeper_told.content
+  pub finds_exactly : now.keeper_told.faults ≡ before.keeper_told.faults → now.keeper_told.faults < most_faults
+      → (name : List ℕ) → FindsContent (now.finds name) now.keeper_told.content
+
+-- a session over a store ended before anything was served
+pub record SessionUnserved {S W K : Type 0} (store : List ℕ) (ended : Status)
+    (before now : Devices S W K) : Type 0 where
+  pub stores_nothing : now.finds store ≡ before.finds store
+  pub loads_once : now.keeper_told.calls ≡ one_more before.keeper_told.calls
+  pub reads_nothing : now.streams.source ≡ before.streams.source
+  pub count_stays : ended ≢ KeeperFailed → now.keeper_told.faults ≡ before.keeper_told.faults
+  pub keeper_failed : ended ≡ KeeperFailed → Rose before.keeper_told.faults now.keeper_told.faults
+      × (now.streams.sink ≡ before.streams.sink) × (now.keeper_told.is_open ≡ false)
+  pub damaged : ended ≡ Damaged → (number : ℕ) × IfSome (before.finds store) (λ found. damage_of found ≡ Some number)
+      × Sent before.streams.sink_told.written now.streams.sink_told.written
+      before.streams.sink_told.faults now.streams.sink_told.faults (damaged_line number)
+
+-- what a session over a store leaves
+pub record SessionRan {S W K : Type 0} (store : List ℕ) (ended : Status) (before now : Devices S W K) : Type 0 where
+  pub is_command : ended ≢ NoCommand
+  pub served : is_served ended ≡ true → SessionGone store ended before now
+  pub unserved : ends_unserved ended ≡ true → SessionUnserved store ended before now
+  pub damaged_only : IfSome (before.finds store) (λ found. damage_of found ≢ None → ends_unserved ended ≡ true)
+  -- with no other end than that of a sink that failed a write of a response failed
+  pub failed_write : is_served ended ≡ true → ended ≢ SinkFailed
+      → now.streams.sink_told.faults ≡ before.streams.sink_told.faults
+  pub keeper_counts : before.keeper_told.faults ≤ now.keeper_told.faults
+
+-- ---- the top call
 
 -- what is written where the words are no command
 abbrev pub usage_line : List ℕ
 usage_line = codes "usage: cds peaks|session|serve|demo|migrate\n"
 
--- 0 done, 1 refused, 2 no command, 3 the source failed, 4 the sink failed, 5 the keeper failed, 6 no memory, 8 damaged
-abbrev pub IsStatus : ℕ → Type 0
-IsStatus status = IsTrue (list_any (λ s. s == status) (0 ∷ 1 ∷ 2 ∷ 3 ∷ 4 ∷ 5 ∷ 6 ∷ 8 ∷ []))
+-- what words that are no command leave
+pub record UsageTold {S W : Type 0} (ended : Status) (before now : Streams S W) : Type 0 where
+  pub is_none : ended ≡ NoCommand
+  pub sent : Sent before.sink_told.written now.sink_told.written before.sink_told.faults now.sink_told.faults usage_line
+  pub reads_nothing : now.source ≡ before.source
 
--- a session was served: to its end, to a fault of the stream, or until the source or the sink failed
-abbrev pub IsServed : ℕ → Type 0
-IsServed status = IsTrue (list_any (λ s. s == status) (0 ∷ 1 ∷ 3 ∷ 4 ∷ []))
-
--- a session ended before anything was served: the keeper failed, memory was wanting, or the store is damaged
-abbrev pub EndsUnserved : ℕ → Type 0
-EndsUnserved status = IsTrue (list_any (λ s. s == status) (5 ∷ 6 ∷ 8 ∷ []))
+-- what the command that the words state leaves; only a session takes the keeper
+abbrev pub Ran : {S W K : Type 0} → Option TopCommand → Status → Devices S W K → Devices S W K → Type 0
+Ran (Some (peaks options)) ended before now =
+    PeaksRan options ended before.streams now.streams × (now.keeper ≡ before.keeper)
+Ran (Some (session store)) ended before now = SessionRan store ended before now
+Ran None ended before now = UsageTold ended before.streams now.streams × (now.keeper ≡ before.keeper)

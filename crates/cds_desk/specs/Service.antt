@@ -1,99 +1,132 @@
 -- How a connection is served: the items of what its client sends, one after the other, each with what is written for
 -- it, what it changes, and what is kept of it.
-use Rattle.std.specs.Prelude.{◌≡◌, ℕ, ◌+◌, Bool, true, false, List, [], ◌∷◌, ◌++◌, codes, bytes_eq, is_some, IsTrue, ⊤}
-use Rattle.cds_book.specs.Tables.{TablesState}
+use Rattle.std.specs.Prelude.{◌≡◌, ℕ, ◌+◌, List, [], ◌∷◌, ◌++◌, codes, bytes_eq, Option, Some, None, is_some, IsTrue}
+use Rattle.cds_desk.specs.State.{State}
+use Rattle.cds_sign.specs.declared.command.Change.{Change}
 use Rattle.cds_http.specs.Items.{Message, Item, continue, request, fault}
-use Rattle.cds_http.specs.declared.limits.TheConstants.{MOST_BODY_BYTES, MOST_HEAD_BYTES, MOST_FIELDS}
-use Rattle.cds_http.specs.declared.next.Fault.{Fault}
-use Rattle.cds_http.specs.declared.next.Fault.TheVariants as because
-use Rattle.cds_wire.specs.declared.answer.Shown.TheVariants.{Number}
-use Rattle.cds_desk.specs.Response.{response_text, continue_text}
-use Rattle.cds_desk.specs.Step.{step, judged, records_of, refusal_reply, memory_reply, keeper_reply}
-use Rattle.cds_desk.specs.declared.reply.Reply.{Reply}
+use Rattle.cds_respond.specs.Fixed.{fault_text}
+use Rattle.cds_respond.specs.Replies.{memory_reply, keeper_reply}
+use Rattle.cds_respond.specs.Response.{response_text, continue_text}
+use Rattle.cds_respond.specs.declared.reply.Reply.{Reply}
+use Rattle.cds_desk.specs.Judged.{change_of}
+use Rattle.cds_desk.specs.Step.{step, judged, records_of}
 
 -- ---- responses
-
--- the reply to a fault of the stream; a place is the number of bytes before the message
-abbrev pub fault_reply : Fault → Reply
-fault_reply (because.Head place) = refusal_reply 400 (codes "head") 0 (Number place)
-fault_reply (because.Truncated place) = refusal_reply 400 (codes "truncated") 0 (Number place)
-fault_reply (because.LengthRequired place) = refusal_reply 411 (codes "length") 0 (Number place)
-fault_reply because.BodyTooLarge = refusal_reply 413 (codes "body") 0 (Number MOST_BODY_BYTES)
-fault_reply because.HeadTooLarge = refusal_reply 431 (codes "size") 0 (Number MOST_HEAD_BYTES)
-fault_reply because.TooManyFields = refusal_reply 431 (codes "fields") 0 (Number MOST_FIELDS)
-
--- the response to a fault, after which the connection closes; its body is never left out
-abbrev pub fault_text : Fault → List ℕ
-fault_text f = response_text (fault_reply f) true false
 
 -- the response to a request, which closes the connection where the request asks for it
 abbrev pub reply_to : Message → Reply → List ℕ
 reply_to m reply = response_text reply m.close (bytes_eq m.method (codes "HEAD"))
 
--- the responses where memory is wanting, and where the keeper failed
-abbrev pub memory_text : Bool → Bool → List ℕ
-memory_text close without_body = response_text memory_reply close without_body
-
-abbrev pub keeper_text : Bool → Bool → List ℕ
-keeper_text close without_body = response_text keeper_reply close without_body
-
 -- ---- turns
 
--- how the turn of a request went
+-- what a turn, or several, took of the clock and of the counter of steps
+pub record Used : Type 0 where
+  -- the moments that the clock was asked for, in their order
+  pub moments : List ℕ
+  -- how many steps were taken
+  pub cost : ℕ
+
+-- the clock isn't asked, and no step is taken
+abbrev pub unused : Used
+unused = record { moments = []; cost = 0 }
+
+-- how the turn of a request went, and what it used
 pub data Way : Type 0 where
   -- it was served at this moment
-  served : ℕ → Way
-  -- memory was wanting
-  no_memory : Way
+  served : ℕ → Used → Way
+  -- memory was wanting before anything was put to the keeper
+  no_memory : Used → Way
+  -- the keeper found no memory for the record
+  not_kept : Used → Way
   -- the keeper failed
-  keeper_failed : Way
+  keeper_failed : Used → Way
 
--- what came of a turn or of several: what was written, the tables after it, the records that were kept, and how
--- often the keeper failed
+-- what came of a turn or of several
 pub record Outcome : Type 0 where
+  -- what was written
   pub written : List ℕ
-  pub tables : TablesState
+  -- the state after it
+  pub state : State
+  -- the records that were kept
   pub records : List (List ℕ)
+  -- how many records were put to the keeper, kept or not
+  pub puts : ℕ
+  -- how often the keeper failed
   pub failures : ℕ
+  -- the moments that the clock was asked for, in their order
+  pub moments : List ℕ
+  -- how many steps were taken
+  pub cost : ℕ
+
+-- how many records are put for a change, if there is one
+abbrev pub puts_for : Option Change → ℕ
+puts_for (Some change) = 1
+puts_for None = 0
+
+-- the turn of a request that isn't served: this is replied, and the state is as before
+abbrev pub unserved : State → Message → Reply → ℕ → ℕ → Used → Outcome
+unserved state m reply puts failures used = record {
+  written = reply_to m reply;
+  state = state;
+  records = [];
+  puts = puts;
+  failures = failures;
+  moments = used.moments;
+  cost = used.cost;
+}
 
 -- the turn of a request, which goes this way
-abbrev pub turn : TablesState → Message → Way → Outcome
-turn tables m (served moment) = record {
-  written = reply_to m (step tables m moment).reply;
-  tables = (step tables m moment).tables;
-  records = records_of (judged tables m moment).change;
+abbrev pub turn : State → Message → Way → Outcome
+turn state m (served moment used) = record {
+  written = reply_to m (step state m moment).reply;
+  state = (step state m moment).state;
+  records = records_of (change_of (judged state m moment));
+  puts = puts_for (change_of (judged state m moment));
   failures = 0;
+  moments = used.moments;
+  cost = used.cost;
 }
-turn tables m no_memory = record { written = reply_to m memory_reply; tables = tables; records = []; failures = 0 }
-turn tables m keeper_failed = record { written = reply_to m keeper_reply; tables = tables; records = []; failures = 1 }
+turn state m (no_memory used) = unserved state m memory_reply 0 0 used
+turn state m (not_kept used) = unserved state m memory_reply 1 0 used
+turn state m (keeper_failed used) = unserved state m keeper_reply 1 1 used
 
--- the keeper fails only for a request that has a change
-abbrev pub MayGo : TablesState → Message → Way → Type 0
-MayGo tables m (served moment) = ⊤
-MayGo tables m no_memory = ⊤
-MayGo tables m keeper_failed = (moment : ℕ) × IsTrue (is_some (judged tables m moment).change)
+-- the request has a change at some moment
+abbrev pub HasChange : State → Message → Type 0
+HasChange state m = (moment : ℕ) × IsTrue (is_some (change_of (judged state m moment)))
+
+-- a record is put only for a request that has a change; no request asks the clock or takes a step yet
+abbrev pub MayGo : State → Message → Way → Type 0
+MayGo state m (served moment used) = used ≡ unused
+MayGo state m (no_memory used) = used ≡ unused
+MayGo state m (not_kept used) = (used ≡ unused) × HasChange state m
+MayGo state m (keeper_failed used) = (used ≡ unused) × HasChange state m
 
 -- an outcome, and then another
 abbrev pub followed_by : Outcome → Outcome → Outcome
 followed_by first second = record {
   written = first.written ++ second.written;
-  tables = second.tables;
+  state = second.state;
   records = first.records ++ second.records;
+  puts = first.puts + second.puts;
   failures = first.failures + second.failures;
+  moments = first.moments ++ second.moments;
+  cost = first.cost + second.cost;
 }
 
 -- text is written, and nothing else happens
-abbrev pub writes : TablesState → List ℕ → Outcome
-writes tables text = record { written = text; tables = tables; records = []; failures = 0 }
+abbrev pub writes : State → List ℕ → Outcome
+writes state text =
+    record { written = text; state = state; records = []; puts = 0; failures = 0; moments = []; cost = 0 }
 
 -- an item of the stream is served, with this outcome
-abbrev pub ServesItem : TablesState → Item → Outcome → Type 0
-ServesItem tables continue outcome = outcome ≡ writes tables continue_text
-ServesItem tables (request m) outcome = (way : Way) × MayGo tables m way × (outcome ≡ turn tables m way)
-ServesItem tables (fault f) outcome = outcome ≡ writes tables (fault_text f)
+abbrev pub ServesItem : State → Item → Outcome → Type 0
+ServesItem state continue outcome = outcome ≡ writes state continue_text
+ServesItem state (request m) outcome = (way : Way) × MayGo state m way × (outcome ≡ turn state m way)
+ServesItem state (fault f) outcome = outcome ≡ writes state (fault_text f)
 
 -- the items are served in their order, with this outcome in all
-abbrev pub Serves : TablesState → List Item → Outcome → Type 0
-Serves tables [] outcome = outcome ≡ writes tables []
-Serves tables (item ∷ items) outcome =
-    (first : Outcome) × (rest : Outcome) × ServesItem tables item first × Serves first.tables items rest × (outcome ≡ followed_by first rest)
+abbrev pub Serves : State → List Item → Outcome → Type 0
+Serves state [] outcome = outcome ≡ writes state []
+Serves state (item ∷ items) outcome =
+    (first : Outcome) × (rest : Outcome) × ServesItem state item first × Serves first.state items rest
+    × (outcome ≡ followed_by first rest)

@@ -1,23 +1,26 @@
 -- The turn of one request, in its parts.
-use Rattle.std.specs.Prelude.{◌≡◌, ℕ, ◌++◌, Bool, List, Option, Some, None, option_map, is_some, IsTrue, ⊤, codes, bytes_eq}
+use Rattle.std.specs.Prelude.{◌≡◌, ℕ, ◌++◌, Bool, List, Option, Some, None, option_map, is_some, IsTrue, ⊤, codes}
+use Rattle.std.specs.Prelude.{bytes_eq}
+use Rattle.cds_base.specs.Failing.{one_more}
 use Rattle.cds_base.specs.Faults.{Rose}
-use Rattle.cds_book.specs.Tables.{TablesState}
-use Rattle.cds_book.specs.declared.command.Change.{Change}
+use Rattle.cds_desk.specs.State.{State, after_change}
+use Rattle.cds_sign.specs.declared.command.Change.{Change}
 use Rattle.cds_codec.specs.Record.{record_of}
 use Rattle.cds_http.specs.Items.{Message}
 use Rattle.cds_desk.specs.Routes.{target_of}
-use Rattle.cds_desk.specs.Serving.{World}
-use Rattle.cds_desk.specs.Service.{memory_text, keeper_text}
-use Rattle.cds_desk.specs.Step.{judged_route, after_change, records_of}
-use Rattle.cds_desk.specs.declared.judge.Judged.{Judged}
+use Rattle.cds_desk.specs.Serving.{Lasting}
+use Rattle.cds_respond.specs.Fixed.{memory_text, keeper_text}
+use Rattle.cds_desk.specs.Judged.{change_of}
+use Rattle.cds_desk.specs.Step.{judged_route, records_of}
+use Rattle.cds_desk.specs.declared.judged.Judged.{Judged}
 use Rattle.cds_desk.specs.declared.turn.Answered.{Answered}
-use Rattle.cds_desk.specs.declared.turn.Answered.TheVariants.{Response, NoMemory, KeeperFailed}
+use Rattle.cds_desk.specs.declared.turn.Answered.TheVariants.{Response, NoMemory, NotKept, KeeperFailed}
 use Rattle.cds_desk.specs.declared.turn.Asked.{Asked}
 use Rattle.cds_desk.specs.declared.turn.Kept.{Kept}
 
 -- what is judged of a request
-abbrev pub judged_of : TablesState → Asked → Judged
-judged_of tables asked = judged_route tables (target_of asked.target.now) asked.method.now asked.body.now
+abbrev pub judged_of : State → Asked → Judged
+judged_of state asked = judged_route state (target_of asked.target.now) asked.method.now asked.body.now
 
 -- the change that is to be kept is the one that was judged, with its record
 abbrev pub KeepsChange : Option Change → Option Kept → Type 0
@@ -38,17 +41,34 @@ pub record Asks (asked : Asked) (m : Message) : Type 0 where
 abbrev pub answered_text : Answered → Bool → Bool → List ℕ
 answered_text (Response response) close without_body = response
 answered_text NoMemory close without_body = memory_text close without_body
+answered_text NotKept close without_body = memory_text close without_body
 answered_text KeeperFailed close without_body = keeper_text close without_body
 
--- what comes of a request that was judged so: its response, with what it changes; or that memory was wanting, or the
--- keeper failed, and nothing is changed. The keeper's count rises only where the answer says that it failed, so a put that
--- failed is neither tried again nor told as another answer.
-abbrev pub Comes : World → World → Judged → List ℕ → Answered → Type 0
+-- the count of the keeper's calls once the record of a change was put, if there is a change
+abbrev pub calls_after : Option Change → ℕ → ℕ
+calls_after (Some change) calls = one_more calls
+calls_after None calls = calls
+
+-- What comes of a request that was judged so: its response, with what it changes; or that memory was wanting, or the
+-- keeper failed, and nothing is changed. The record of a change is put once, and nothing else; the keeper's count of
+-- faults rises only where the answer says that it failed.
+abbrev pub Comes : Lasting → Lasting → Judged → List ℕ → Answered → Type 0
 Comes before now j text (Response response) =
     (response ≡ text)
-    × (now.tables ≡ after_change before.tables j.change)
-    × (now.content ≡ option_map (λ list. list ++ records_of j.change) before.content)
-    × (now.faults ≡ before.faults)
-Comes before now j text NoMemory = (now.tables ≡ before.tables) × (now.content ≡ before.content) × (now.faults ≡ before.faults)
+    × (now.state ≡ after_change before.state (change_of j))
+    × (now.keeper.content ≡ option_map (λ list. list ++ records_of (change_of j)) before.keeper.content)
+    × (now.keeper.faults ≡ before.keeper.faults)
+    × (now.keeper.calls ≡ calls_after (change_of j) before.keeper.calls)
+Comes before now j text NoMemory = now ≡ before
+Comes before now j text NotKept =
+    IsTrue (is_some (change_of j))
+    × (now.state ≡ before.state)
+    × (now.keeper.content ≡ before.keeper.content)
+    × (now.keeper.faults ≡ before.keeper.faults)
+    × (now.keeper.calls ≡ one_more before.keeper.calls)
 Comes before now j text KeeperFailed =
-    IsTrue (is_some j.change) × (now.tables ≡ before.tables) × (now.content ≡ before.content) × Rose before.faults now.faults
+    IsTrue (is_some (change_of j))
+    × (now.state ≡ before.state)
+    × (now.keeper.content ≡ before.keeper.content)
+    × Rose before.keeper.faults now.keeper.faults
+    × (now.keeper.calls ≡ one_more before.keeper.calls)

@@ -1,27 +1,33 @@
 -- The words of the command line: which lists of words are a command, and what they set.
-use Rattle.std.specs.Prelude.{◌≡◌, true, false, ⊤, ℕ, ◌^◌, ◌&&◌, ◌==◌, Bool, List, [], length, codes, slice_index_or, Option, Some, None, nat_le, nat_lt, if◌then◌else◌}
+use Rattle.std.specs.Prelude.{⊤, ℕ, ◌^◌, ◌&&◌, ◌==◌, Bool, List, [], length, codes, slice_index_or, Option, Some, None}
+use Rattle.std.specs.Prelude.{option_map, nat_le, nat_lt, if◌then◌else◌}
 use Rattle.std.specs.Char.{is_ascii_digit}
 use Rattle.std.specs.List.{list_all}
 use Rattle.std.specs.Str.{bytes_eq}
 use Rattle.std.specs.Str.Parse.{digits_value}
-use Rattle.cds_fields.specs.declared.limits.TheConstants.{MOST_SLOPE}
+use Rattle.cds_base.specs.declared.event.TheConstants.{MOST_SLOPE}
 use Rattle.cds_rules.specs.declared.limits.TheConstants.{MOST_BUNCH, MOST_PLATEAU}
 use Rattle.cds_rules.specs.Ranges.{SlopeRanges}
 use Rattle.cds_desk.specs.declared.words.CommandLine.{CommandLine}
 use Rattle.cds_desk.specs.declared.words.CommandLine.TheVariants.{Peaks, Session}
 use Rattle.cds_desk.specs.declared.words.PeaksOptions.{PeaksOptions}
+use Rattle.cds_desk.specs.declared.words.TheConstants.{MOST_DIGITS}
 
--- 1 to 20 decimal digits, and nothing else
+-- one to `MOST_DIGITS` decimal digits, and nothing else
 abbrev pub is_number : List ℕ → Bool
-is_number word = (nat_le 1 (length word) && nat_le (length word) 20) && list_all is_ascii_digit word
+is_number word = (nat_le 1 (length word) && nat_le (length word) MOST_DIGITS) && list_all is_ascii_digit word
 
--- a number below 2^64
-abbrev pub below_2_64 : ℕ → Option ℕ
-below_2_64 n = if nat_lt n (2 ^ 64) then Some n else None
+-- a number on the command line or in a path is below this
+abbrev pub number_limit : ℕ
+number_limit = 2 ^ 64
 
--- the number that 1 to 20 decimal digits write, where it is below 2^64
+-- a number below that limit
+abbrev pub below_limit : ℕ → Option ℕ
+below_limit n = if nat_lt n number_limit then Some n else None
+
+-- the number that the digits write, where it is below the limit
 abbrev pub number_of : List ℕ → Option ℕ
-number_of word = if is_number word then below_2_64 (digits_value 10 word) else None
+number_of word = if is_number word then below_limit (digits_value 10 word) else None
 
 -- a number that lies from `low` to `high`
 abbrev pub within : ℕ → ℕ → Option ℕ → Option ℕ
@@ -48,27 +54,45 @@ are_peaks_words words =
 
 -- four numbers as options, where each is there
 abbrev pub options_from : Option ℕ → Option ℕ → Option ℕ → Option ℕ → Option PeaksOptions
-options_from (Some bunch) (Some on) (Some off) (Some plateau) = Some (record { bunch = bunch; slope_on = on; slope_off = off; plateau = plateau })
+options_from (Some bunch) (Some on) (Some off) (Some plateau) =
+    Some (record { bunch = bunch; slope_on = on; slope_off = off; plateau = plateau })
 options_from _ _ _ _ = None
 
--- what the words `peaks --bunch B --on T --off T --plateau P` set, where they are these words and each number is in its range
+-- what the words `peaks --bunch B --on T --off T --plateau P` set, where they are these words and each number is in its
+-- range
 abbrev pub options_of : List (List ℕ) → Option PeaksOptions
 options_of words =
     if are_peaks_words words
-    then options_from (number_in 1 MOST_BUNCH (word_at words 2)) (number_in 1 MOST_SLOPE (word_at words 4)) (number_in 1 MOST_SLOPE (word_at words 6)) (number_in 0 MOST_PLATEAU (word_at words 8))
+    then options_from (number_in 1 MOST_BUNCH (word_at words 2)) (number_in 1 MOST_SLOPE (word_at words 4))
+    (number_in 1 MOST_SLOPE (word_at words 6)) (number_in 0 MOST_PLATEAU (word_at words 8))
     else None
 
 -- the words are `session` alone
 abbrev pub is_session : List (List ℕ) → Bool
 is_session words = (length words == 1) && bytes_eq (word_at words 0) (codes "session")
 
--- the words state this command, or none
-abbrev pub States : List (List ℕ) → Option CommandLine → Type 0
-States words None = (is_session words ≡ false) × (options_of words ≡ None)
-States words (Some (Peaks options)) = (is_session words ≡ false) × (options_of words ≡ Some options)
-States words (Some Session) = (is_session words ≡ true) × (options_of words ≡ None)
+-- a command, as its words set it
+pub data TopCommand : Type 0 where
+  -- `peaks` with its options
+  peaks : PeaksOptions → TopCommand
+  -- `session` over the store of this name
+  session : List ℕ → TopCommand
+
+-- the command that the words state, if they state one; `session` alone is over the store of the empty name
+abbrev pub command_of : List (List ℕ) → Option TopCommand
+command_of words = if is_session words then Some (session []) else option_map peaks (options_of words)
+
+-- the command is `session`
+abbrev pub IsSession : TopCommand → Type 0
+IsSession (peaks options) = ⊥
+IsSession (session store) = ⊤
+
+-- what a command of the program is
+abbrev pub command_is : CommandLine → TopCommand
+command_is (Peaks options) = peaks options
+command_is (Session store) = session store.now
 
 -- the options of a command lie in their ranges
 abbrev pub HasRanges : CommandLine → Type 0
 HasRanges (Peaks o) = SlopeRanges o.bunch o.slope_on o.slope_off o.plateau
-HasRanges Session = ⊤
+HasRanges (Session store) = ⊤

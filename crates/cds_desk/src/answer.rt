@@ -1,24 +1,20 @@
+//! What `peaks` answers to the bytes of its source.
+
 ghost use Rattle.std.specs.Prelude.{◌≡◌, ◌⊎◌, IfOk, Ok, Some};
 ghost use Rattle.cds_rules.specs.Ranges.{SlopeRanges};
 ghost use Rattle.cds_desk.specs.PeaksAnswer.{peaks_answer, answer_to_trace, refusal, refusal_line};
 ghost use Rattle.std.specs.String.{string_bytes};
 
-use crate::receiving::MOST_SOURCE_BYTES;
+use crate::status::Status;
 use crate::words::PeaksOptions;
 use cds_base::{Bytes, NoMemory, Steps};
 use cds_detect::raw_peaks;
 use cds_report::peaks_text;
+use cds_respond::MOST_SOURCE_BYTES;
 use cds_rules::Method;
 use cds_trace::{Trace, TraceError};
 use std::alloc::Global;
 use std::sync::ledger::Ledger;
-
-/// The status of a command that was carried out.
-pub const DONE: u8 = 0;
-
-/// The status of `peaks` where the trace is refused, and of `session` where the last response tells a fault of the
-/// stream.
-pub const REFUSED: u8 = 1;
 
 /// The number of the refusal of a source with more bytes than a command may read.
 pub const TOO_MANY_BYTES: u8 = 9;
@@ -26,7 +22,7 @@ pub const TOO_MANY_BYTES: u8 = 9;
 /// What is answered: the status, and the text that is written.
 #[derive(Debug, Drop)]
 pub struct Answer {
-    pub status: u8,
+    pub status: Status,
     pub text: Bytes,
 }
 
@@ -39,7 +35,7 @@ pub(crate) fn peaks_answer<L: Ledger>(
 ) -> Result<Answer, NoMemory>
     requires { SlopeRanges options.bunch options.slope_on options.slope_off options.plateau }
     ensures value { IfOk result (λ answer. answer ≡ peaks_answer options bytes.now) }
-    ensures status { IfOk result (λ answer. (answer.status ≡ DONE) ⊎ (answer.status ≡ REFUSED)) }
+    ensures status { IfOk result (λ answer. (answer.status ≡ Status.Done) ⊎ (answer.status ≡ Status.Refused)) }
 {
     if MOST_SOURCE_BYTES < bytes.len() {
         return refusal(alloc, TOO_MANY_BYTES, None);
@@ -70,7 +66,7 @@ fn found<L: Ledger>(
     );
     let raw = raw_peaks(alloc, trace, &method, &[], steps)?;
     Ok(Answer {
-        status: DONE,
+        status: Status::Done,
         text: peaks_text(alloc, &raw)?,
     })
 }
@@ -80,7 +76,7 @@ fn refusal(alloc: Global, number: u8, at: Option<u32>) -> Result<Answer, NoMemor
     ensures { IfOk result (λ answer. answer ≡ refusal number at) }
 {
     Ok(Answer {
-        status: REFUSED,
+        status: Status::Refused,
         text: Bytes::from_vec(refusal_line(alloc, number, at)?.into_bytes()),
     })
 }

@@ -1,41 +1,70 @@
-//! Laws of the machine. Each is proved by its contract, and its body does nothing.
+//! Laws of the machine. Each is proved by its contract; its body does nothing but call the laws that it rests on.
 
-ghost use Rattle.std.specs.Prelude.{◌≡◌, ◌≢◌, ◌≤◌, ℕ, List, None, IsTrue, is_some};
-ghost use Rattle.cds_book.specs.Tables.{TablesState};
+ghost use Rattle.std.specs.Prelude.{◌≡◌, ◌≢◌, ◌≤◌, ◌^◌, ℕ, List, Some, None, IsTrue, is_some};
 ghost use Rattle.cds_http.specs.Items.{Message, Item};
 ghost use Rattle.cds_desk.specs.Serving.{World, AreServed, InAll};
-ghost use Rattle.cds_desk.specs.declared.receiving.TheConstants.{MOST_SOURCE_BYTES};
+ghost use Rattle.cds_desk.specs.declared.answer.TheConstants.{TOO_MANY_BYTES};
 ghost use Rattle.cds_desk.specs.declared.target.TheConstants.{MOST_PATH_NUMBER};
+ghost use Rattle.cds_desk.specs.Statuses.{exit_number};
+ghost use Rattle.cds_desk.specs.declared.status.Status.TheVariants.{Done, Refused, NoCommand, SourceFailed, SinkFailed};
+ghost use Rattle.cds_desk.specs.declared.status.Status.TheVariants.{KeeperFailed, NoMemory, Damaged};
+ghost use Rattle.cds_desk.specs.declared.words.TheConstants.{MOST_DIGITS};
 ghost use Rattle.cds_desk.specs.Repeat.{IsUnchanged};
-ghost use Rattle.cds_desk.specs.Step.{judged, step, after_change};
+ghost use Rattle.cds_base.specs.NameText.{IsName};
+ghost use Rattle.cds_desk.specs.Routes.{path_number, path_with, number_of_path, target_of};
+ghost use Rattle.cds_desk.specs.declared.routes.Route.{Route};
+ghost use Rattle.cds_desk.specs.State.{State, after_change};
+ghost use Rattle.cds_desk.specs.Judged.{change_of};
+ghost use Rattle.cds_desk.specs.Step.{judged, step};
+ghost use Rattle.cds_desk.specs.Words.{number_limit};
 
-/// A request that changed the tables, repeated at once: it changes nothing, and its reply is 200 and says that nothing
+use cds_book::{a_change_is_what_was_asked, a_repeated_change_changes_nothing};
+
+/// A request that changed the state, repeated at once: it changes nothing, and its reply is 200 and says that nothing
 /// changed.
 pub fn repeated_request_changes_nothing()
-    ensures { (tables : TablesState) (m : Message) (moment again : ℕ) → IsTrue (is_some (judged tables m moment).change)
-        → IsUnchanged (judged (after_change tables (judged tables m moment).change) m again) }
-{}
+    ensures { (state : State) (m : Message) (moment again : ℕ) → IsTrue (is_some (change_of (judged state m moment)))
+        → IsUnchanged (judged (after_change state (change_of (judged state m moment))) m again) }
+{
+    a_change_is_what_was_asked();
+    a_repeated_change_changes_nothing();
+}
 
-/// A refused request changes nothing: where the status of its reply is 400 or above, it makes no change, and the tables
-/// after the step are those before it.
+/// A refused request changes nothing: where the status of its reply is 400 or above, it makes no change, and the state
+/// after the step is that before it.
 pub fn refused_request_changes_nothing()
-    ensures { (tables : TablesState) (m : Message) (moment : ℕ) → 400 ≤ (step tables m moment).reply.status
-        → ((judged tables m moment).change ≡ None) × ((step tables m moment).tables ≡ tables) }
+    ensures { (state : State) (m : Message) (moment : ℕ) → 400 ≤ (step state m moment).reply.status
+        → (change_of (judged state m moment) ≡ None) × ((step state m moment).state ≡ state) }
 {}
 
 /// A step answers neither 503 nor 507: these tell how a turn went, whatever the request is.
 pub fn a_step_answers_neither_503_nor_507()
-    ensures { (tables : TablesState) (m : Message) (moment : ℕ) → ((step tables m moment).reply.status ≢ 503) × ((step tables m moment).reply.status ≢ 507) }
+    ensures { (state : State) (m : Message) (moment : ℕ) → ((step state m moment).reply.status ≢ 503)
+        × ((step state m moment).reply.status ≢ 507) }
 {}
 
 /// Items that are served one after the other have one outcome in all: what is written is what is written for each in
-/// turn, the tables are those after the last, and the records that are kept are those of each in turn.
+/// turn, the state is that after the last, and the records that are kept are those of each in turn.
 pub fn served_items_have_one_outcome()
     ensures { (items : List Item) (before now : World) → AreServed before items now → InAll before now items }
 {}
 
-/// The limits of the desk: the most bytes that a command reads from its source, as many as a body may have, and the
-/// greatest number in a path.
+/// Each route is found by its own path: what is written with a name, and with the digits of a number where its paths
+/// have one, names this name and this number on the route.
+pub fn each_route_is_found_by_its_path()
+    ensures { (r : Route) (name digits : List ℕ) (number : ℕ) → IsName name → path_number digits ≡ Some number
+        → target_of (path_with r name digits) ≡ Some
+        (record { route = r; name = name; number = number_of_path r number }) }
+{}
+
+/// The limits of the desk: that of a number in a word, the greatest number in a path, the most digits of a number on
+/// the command line, the number of the refusal of a source that is too long, and the numbers with which the program
+/// ends.
 pub fn the_limits()
-    ensures { (MOST_SOURCE_BYTES ≡ 16777216) × (MOST_PATH_NUMBER ≡ 4294967295) }
+    ensures words { number_limit ≡ 2 ^ 64 }
+    ensures numbers { (MOST_PATH_NUMBER ≡ 4294967295) × (MOST_DIGITS ≡ 20) × (TOO_MANY_BYTES ≡ 9) }
+    ensures served { (exit_number Done ≡ 0) × (exit_number Refused ≡ 1) × (exit_number NoCommand ≡ 2)
+        × (exit_number SourceFailed ≡ 3) }
+    ensures unserved { (exit_number SinkFailed ≡ 4) × (exit_number KeeperFailed ≡ 5) × (exit_number NoMemory ≡ 6)
+        × (exit_number Damaged ≡ 8) }
 {}

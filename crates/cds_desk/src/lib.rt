@@ -1,42 +1,41 @@
-//! The desk: routes and replies over the tables, the serving of a connection, the words of the command line, and the
+//! The desk: routes and replies over its state, the serving of a connection, the words of the command line, and the
 //! top call. Begin at [`run`], for a server at [`Desk::serve_connection`].
 #![tactic(auto)]
 
 mod answer;
+mod commands;
 mod desk;
 mod judge;
+mod judged;
 mod laws;
 mod methods;
-mod piece;
-mod receiving;
+mod peaks;
 mod refusals;
-mod reply;
-mod response;
 mod routes;
-mod sending;
 mod serving;
 mod session;
+mod state;
+mod status;
 mod target;
 mod top;
 mod traces;
 mod turn;
-mod without_memory;
 mod words;
 
-pub use answer::{DONE, REFUSED, TOO_MANY_BYTES};
+pub use answer::TOO_MANY_BYTES;
 pub use desk::{Desk, OpenError};
+pub use judged::Judged;
 pub use laws::{
-    a_step_answers_neither_503_nor_507, refused_request_changes_nothing,
-    repeated_request_changes_nothing, served_items_have_one_outcome, the_limits,
+    a_step_answers_neither_503_nor_507, each_route_is_found_by_its_path,
+    refused_request_changes_nothing, repeated_request_changes_nothing,
+    served_items_have_one_outcome, the_limits,
 };
-pub use receiving::MOST_SOURCE_BYTES;
+pub use routes::Route;
 pub use serving::Ended;
-pub use top::{DAMAGED, KEEPER_FAILED, NO_COMMAND, NO_MEMORY, SINK_FAILED, SOURCE_FAILED, run};
+pub use status::Status;
+pub use target::Target;
+pub use top::run;
 
-#[cfg(test)]
-mod method_tests;
-#[cfg(test)]
-mod session_tests;
 #[cfg(test)]
 mod test_devices;
 #[cfg(test)]

@@ -1,6 +1,9 @@
+//! The routes: patterns of paths, each with one method.
+
 ghost use Rattle.std.specs.Prelude.{◌≡◌, IfOk, None, option_map};
 ghost use Rattle.matchit.specs.Seek.{first};
-ghost use Rattle.cds_desk.specs.Routes.{pattern_of, method_of, with_route, route_table};
+ghost use Rattle.cds_desk.specs.Routes.{pattern_of, method_of, number_at, all_routes, with_route, with_routes};
+ghost use Rattle.cds_desk.specs.Routes.{route_table};
 
 use cds_base::NoMemory;
 use http::Method;
@@ -9,7 +12,7 @@ use std::alloc::Global;
 
 /// The routes of the server. Each has a pattern of paths and one method.
 #[derive(Clone, Copy, Debug, PartialEq, Eq)]
-pub(crate) enum Route {
+pub enum Route {
     /// A trace is put under a name.
     PutTrace,
     /// The text of a trace's version is read.
@@ -46,6 +49,30 @@ impl Route {
             Route::PostVersion => Method::POST,
         }
     }
+
+    /// The place of the number among the segments of its paths, if they have one.
+    pub(crate) fn number_at(self) -> Option<u32>
+        ensures { result ≡ number_at self }
+    {
+        match self {
+            Route::GetTrace => Some(3),
+            Route::GetMethod => Some(4),
+            Route::PutTrace | Route::PutDraft | Route::PostVersion => None,
+        }
+    }
+}
+
+/// All routes.
+fn all_routes() -> [Route; 5]
+    ensures { result ≡ all_routes }
+{
+    [
+        Route::PutTrace,
+        Route::GetTrace,
+        Route::PutDraft,
+        Route::PostVersion,
+        Route::GetMethod,
+    ]
 }
 
 /// The router over all routes.
@@ -53,12 +80,19 @@ pub(crate) fn route_table(alloc: Global) -> Result<Router<Route>, NoMemory>
     ensures { IfOk result (λ router. router ≡ route_table) }
 {
     let mut router = Router::new(alloc);
-    add(&mut router, Route::PutTrace)?;
-    add(&mut router, Route::GetTrace)?;
-    add(&mut router, Route::PutDraft)?;
-    add(&mut router, Route::PostVersion)?;
-    add(&mut router, Route::GetMethod)?;
+    add_all(&mut router, &all_routes())?;
     Ok(router)
+}
+
+/// Adds the routes, one after the other.
+fn add_all(router: &mut Router<Route>, routes: &[Route]) -> Result<(), NoMemory>
+    ensures { IfOk result (λ _. router.new ≡ with_routes routes.now router.old) }
+{
+    let Some((route, rest)) = routes.split_first() else {
+        return Ok(());
+    };
+    add(router, *route)?;
+    add_all(router, rest)
 }
 
 /// Adds a route. The patterns are ours and none is like another, so memory is all that can be wanting.

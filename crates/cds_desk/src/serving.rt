@@ -1,26 +1,24 @@
 //! Serving a connection: items of the stream are taken one after the other, each is served before the next.
 
-ghost use Rattle.std.specs.Prelude.{◌≡◌, ◌≢◌, ◌+◌, ◌^◌, ◌<◌, ◌≤◌, true, false, [], ◌∷◌, length, slice_range, Some, None, ◌⊎◌, IsUtf8, IfOk, OnOk, OnErr, vec_len};
+ghost use Rattle.std.specs.Prelude.{◌≡◌, ◌≢◌, ℕ, List, ◌+◌, ◌^◌, ◌<◌, ◌≤◌, true, false, [], ◌∷◌, length, slice_range};
+ghost use Rattle.std.specs.Prelude.{Some, None, ◌⊎◌, IsUtf8, IfOk, OnOk, OnErr, vec_len};
 ghost use Rattle.cds_base.specs.Faults.{Rose};
 ghost use Rattle.cds_base.specs.Told.{then_more};
-ghost use Rattle.cds_desk.specs.Sending.{HoldsPart};
+ghost use Rattle.cds_respond.specs.Sending.{HoldsPart};
 ghost use Rattle.cds_http.specs.Items.{request as request_item, fault as fault_item};
 ghost use Rattle.cds_http.specs.Stream.{message_of, IsRequestIn, room_of, ItemsFrom};
 ghost use Rattle.cds_http.specs.declared.next.Fault.{Fault};
 ghost use Rattle.cds_http.specs.declared.next.Next.TheVariants as next;
-ghost use Rattle.cds_desk.specs.Serving.{world, reading, ItemServed, ItemBroken, EndsAs, ReadOn};
-ghost use Rattle.cds_desk.specs.Service.{fault_text};
+ghost use Rattle.cds_desk.specs.Serving.{world, reading, ItemServed, ItemBroken, EndsAs, FindsOn, ReadOn};
+ghost use Rattle.cds_respond.specs.Fixed.{fault_text};
 ghost use Rattle.cds_desk.specs.Turn.{Asks};
 
 use crate::desk::Desk;
-use crate::piece::new_piece;
-use crate::response::continue_text;
-use crate::sending::send;
 use crate::turn::{Asked, answer, write_answer};
-use crate::without_memory::send_fault;
 use cds_base::{Clock, Failed, Sink, Source, Steps};
 use cds_http::{Fault, Messages, Next, Request, Span};
 use cds_keep::Keeper;
+use cds_respond::{Fixed, new_piece, send_fixed};
 use std::alloc::{AllocError, Global};
 use std::str;
 use std::sync::ledger::Ledger;
@@ -42,12 +40,14 @@ pub enum Ended {
 }
 
 impl Desk {
+    #[tactic(auto, using(crate::proofs::ServingLaws::finds_then))]
     /// Serves a connection: reads HTTP messages from the source and writes the responses to the sink, each message in
     /// its turn, until the source ends, a request closes the connection or a fault of the stream is told. The bytes
     /// that were read fix what is written, whatever the sizes of the reads. A change is put to the keeper, whose
     /// store is open, and then carried out; a request that is refused, finds no memory or a keeper that fails changes
-    /// nothing. After `SinkFailed` a front of what is due stands in the sink. `NoMemory` comes before anything is read
-    /// or written. No request asks the clock or takes a step yet.
+    /// nothing. After `SinkFailed` a front of what is due stands in the sink; with every other answer no write failed.
+    /// What a load would find keeps step with what is kept. `NoMemory` comes before anything is read or written. No
+    /// request asks the clock or takes a step yet.
     pub fn serve_connection<S: Source, W: Sink, K: Keeper, C: Clock, L: Ledger>(
         &mut self,
         source: &mut S,
@@ -56,17 +56,24 @@ impl Desk {
         clock: &mut C,
         steps: &mut Steps<L>,
     ) -> Ended
-        requires { K.is_open keeper.old ≡ true }
-        ensures ends { EndsAs result (world (W.written sink.old) (K.content keeper.old) (K.faults keeper.old) self.old) (world (W.written sink.new) (K.content keeper.new) (K.faults keeper.new) self.new)
-            (reading (S.given source.old) (S.left source.old)) (reading (S.given source.new) (S.left source.new)) }
-        ensures failed_read { result ≢ Ended.SourceFailed → S.faults source.new ≡ S.faults source.old }
-        ensures source_failed { result ≡ Ended.SourceFailed → Rose (S.faults source.old) (S.faults source.new) }
-        ensures sink_failed { result ≡ Ended.SinkFailed → Rose (W.faults sink.old) (W.faults sink.new) }
-        ensures no_memory { result ≡ Ended.NoMemory → (self.new ≡ self.old) × (source.new ≡ source.old) × (sink.new ≡ sink.old) × (keeper.new ≡ keeper.old) }
-        ensures stays_open { K.is_open keeper.new ≡ true }
-        ensures source_counts { S.faults source.old ≤ S.faults source.new }
-        ensures sink_counts { W.faults sink.old ≤ W.faults sink.new }
-        ensures keeper_counts { K.faults keeper.old ≤ K.faults keeper.new }
+        requires { (K.told keeper.old).is_open ≡ true }
+        ensures ends { EndsAs result (world (W.told sink.old).written self.old (K.told keeper.old))
+            (world (W.told sink.new).written self.new (K.told keeper.new))
+            (reading (S.told source.old).given (S.told source.old).left)
+            (reading (S.told source.new).given (S.told source.new).left) }
+        ensures failed_read { result ≢ Ended.SourceFailed → (S.told source.new).faults ≡ (S.told source.old).faults }
+        ensures failed_write { result ≢ Ended.SinkFailed → (W.told sink.new).faults ≡ (W.told sink.old).faults }
+        ensures finds { (name : List ℕ)
+            → FindsOn (K.finds keeper.old name) (K.finds keeper.new name) (K.told keeper.old) (K.told keeper.new) }
+        ensures source_failed { result ≡ Ended.SourceFailed
+            → Rose (S.told source.old).faults (S.told source.new).faults }
+        ensures sink_failed { result ≡ Ended.SinkFailed → Rose (W.told sink.old).faults (W.told sink.new).faults }
+        ensures no_memory { result ≡ Ended.NoMemory → (self.new ≡ self.old) × (source.new ≡ source.old)
+            × (sink.new ≡ sink.old) × (keeper.new ≡ keeper.old) }
+        ensures stays_open { (K.told keeper.new).is_open ≡ true }
+        ensures source_counts { (S.told source.old).faults ≤ (S.told source.new).faults }
+        ensures sink_counts { (W.told sink.old).faults ≤ (W.told sink.new).faults }
+        ensures keeper_counts { (K.told keeper.old).faults ≤ (K.told keeper.new).faults }
         ensures clock_stays { clock.new ≡ clock.old }
         ensures steps { steps.new ≡ steps.old }
     {
@@ -83,12 +90,12 @@ impl Desk {
                     Ok(_) => {}
                     Err(Failed) => return Ended::SourceFailed,
                 },
-                Next::Continue => match send(sink, continue_text()) {
+                Next::Continue => match send_fixed(sink, Fixed::Continue) {
                     Ok(()) => {}
                     Err(Failed) => return Ended::SinkFailed,
                 },
                 Next::Request(request) => {
-                    match self.serve(&messages, request, sink, keeper) {
+                    match self.serve(&messages, request, sink, keeper, clock) {
                         Ok(()) => messages.done(),
                         Err(Failed) => return Ended::SinkFailed,
                     }
@@ -103,26 +110,41 @@ impl Desk {
 }
 
 impl Desk {
-    #[tactic(auto, using(crate::proofs::TurnLaws::served_ok, crate::proofs::TurnLaws::broken_err))]
     /// Serves a request: what is answered to it is written, and what it changes is kept and carried out.
-    fn serve<W: Sink, K: Keeper>(
+    fn serve<W: Sink, K: Keeper, C: Clock>(
         &mut self,
         messages: &Messages,
         request: Request,
         sink: &mut W,
         keeper: &mut K,
+        clock: &mut C,
     ) -> Result<(), Failed>
-        requires opened { K.is_open keeper.old ≡ true }
+        requires opened { (K.told keeper.old).is_open ≡ true }
         requires whole { IsRequestIn messages.now.bytes request }
-        ensures served { OnOk result (ItemServed (world (W.written sink.old) (K.content keeper.old) (K.faults keeper.old) self.old) (world (W.written sink.new) (K.content keeper.new) (K.faults keeper.new) self.new) (request_item (message_of messages.now.bytes request))) }
-        ensures broken { OnErr result (ItemBroken (world (W.written sink.old) (K.content keeper.old) (K.faults keeper.old) self.old) (world (W.written sink.new) (K.content keeper.new) (K.faults keeper.new) self.new) (request_item (message_of messages.now.bytes request))) }
-        ensures failed { OnErr result (Rose (W.faults sink.old) (W.faults sink.new)) }
-        ensures counts { W.faults sink.old ≤ W.faults sink.new }
-        ensures stays_open { K.is_open keeper.new ≡ true }
-        ensures keeper_counts { K.faults keeper.old ≤ K.faults keeper.new }
+        ensures served { OnOk result (ItemServed (world (W.told sink.old).written self.old (K.told keeper.old))
+            (world (W.told sink.new).written self.new (K.told keeper.new))
+            (request_item (message_of messages.now.bytes request))) }
+        ensures broken { OnErr result (ItemBroken (world (W.told sink.old).written self.old (K.told keeper.old))
+            (world (W.told sink.new).written self.new (K.told keeper.new))
+            (request_item (message_of messages.now.bytes request))) }
+        ensures finds { (name : List ℕ)
+            → FindsOn (K.finds keeper.old name) (K.finds keeper.new name) (K.told keeper.old) (K.told keeper.new) }
+        ensures failed { OnErr result (Rose (W.told sink.old).faults (W.told sink.new).faults) }
+        ensures kept { OnOk result ((W.told sink.new).faults ≡ (W.told sink.old).faults) }
+        ensures counts { (W.told sink.old).faults ≤ (W.told sink.new).faults }
+        ensures stays_open { (K.told keeper.new).is_open ≡ true }
+        ensures keeper_counts { (K.told keeper.old).faults ≤ (K.told keeper.new).faults }
+        ensures clock_stays { clock.new ≡ clock.old }
     {
         let asked = asked_in(messages.bytes(), request);
-        let answered = answer(self.alloc, &self.router, &mut self.tables, keeper, asked);
+        let answered = answer(
+            self.alloc,
+            &self.router,
+            &mut self.state,
+            keeper,
+            clock,
+            asked,
+        );
         write_answer(sink, &answered, asked.close, asked.without_body)
     }
 }
@@ -168,15 +190,17 @@ fn ask<S: Source>(
     requires room { 0 < room_of messages.old }
     requires some { 0 < vec_len piece.old }
     requires not_closed { messages.old.closed ≡ false }
-    requires counted { S.bound source.old < 2 ^ 64 → messages.old.place + length messages.old.bytes + S.bound source.old < 2 ^ 64 }
-    ensures read { IfOk result (ReadOn (reading (S.given source.old) (S.left source.old)) (reading (S.given source.new) (S.left source.new)) messages.old messages.new) }
-    ensures nears { IfOk result (λ n. S.bound source.new + n ≡ S.bound source.old) }
-    ensures bounded { S.bound source.old < 2 ^ 64 }
-    ensures counts { S.faults source.old ≤ S.faults source.new }
-    ensures kept { IfOk result (λ _. S.faults source.new ≡ S.faults source.old) }
-    ensures failed { OnErr result (Rose (S.faults source.old) (S.faults source.new)) }
-    ensures given_stays { OnErr result (S.given source.new ≡ S.given source.old) }
-    ensures left_stays { OnErr result (S.left source.new ≡ S.left source.old) }
+    requires counted { (S.told source.old).bound < 2 ^ 64
+        → messages.old.place + length messages.old.bytes + (S.told source.old).bound < 2 ^ 64 }
+    ensures read { IfOk result (ReadOn (reading (S.told source.old).given (S.told source.old).left)
+        (reading (S.told source.new).given (S.told source.new).left) messages.old messages.new) }
+    ensures nears { IfOk result (λ n. (S.told source.new).bound + n ≡ (S.told source.old).bound) }
+    ensures bounded { (S.told source.old).bound < 2 ^ 64 }
+    ensures counts { (S.told source.old).faults ≤ (S.told source.new).faults }
+    ensures kept { IfOk result (λ _. (S.told source.new).faults ≡ (S.told source.old).faults) }
+    ensures failed { OnErr result (Rose (S.told source.old).faults (S.told source.new).faults) }
+    ensures given_stays { OnErr result ((S.told source.new).given ≡ (S.told source.old).given) }
+    ensures left_stays { OnErr result ((S.told source.new).left ≡ (S.told source.old).left) }
     ensures stream_stays { OnErr result (messages.new ≡ messages.old) }
     ensures piece { vec_len piece.new ≡ vec_len piece.old }
 {
@@ -194,15 +218,17 @@ fn read_on<S: Source>(
     requires in_room { length piece.old ≤ room_of messages.old }
     requires some { 0 < length piece.old }
     requires not_closed { messages.old.closed ≡ false }
-    requires counted { S.bound source.old < 2 ^ 64 → messages.old.place + length messages.old.bytes + S.bound source.old < 2 ^ 64 }
-    ensures read { IfOk result (ReadOn (reading (S.given source.old) (S.left source.old)) (reading (S.given source.new) (S.left source.new)) messages.old messages.new) }
-    ensures nears { IfOk result (λ n. S.bound source.new + n ≡ S.bound source.old) }
-    ensures bounded { S.bound source.old < 2 ^ 64 }
-    ensures counts { S.faults source.old ≤ S.faults source.new }
-    ensures kept { IfOk result (λ _. S.faults source.new ≡ S.faults source.old) }
-    ensures failed { OnErr result (Rose (S.faults source.old) (S.faults source.new)) }
-    ensures given_stays { OnErr result (S.given source.new ≡ S.given source.old) }
-    ensures left_stays { OnErr result (S.left source.new ≡ S.left source.old) }
+    requires counted { (S.told source.old).bound < 2 ^ 64
+        → messages.old.place + length messages.old.bytes + (S.told source.old).bound < 2 ^ 64 }
+    ensures read { IfOk result (ReadOn (reading (S.told source.old).given (S.told source.old).left)
+        (reading (S.told source.new).given (S.told source.new).left) messages.old messages.new) }
+    ensures nears { IfOk result (λ n. (S.told source.new).bound + n ≡ (S.told source.old).bound) }
+    ensures bounded { (S.told source.old).bound < 2 ^ 64 }
+    ensures counts { (S.told source.old).faults ≤ (S.told source.new).faults }
+    ensures kept { IfOk result (λ _. (S.told source.new).faults ≡ (S.told source.old).faults) }
+    ensures failed { OnErr result (Rose (S.told source.old).faults (S.told source.new).faults) }
+    ensures given_stays { OnErr result ((S.told source.new).given ≡ (S.told source.old).given) }
+    ensures left_stays { OnErr result ((S.told source.new).left ≡ (S.told source.old).left) }
     ensures stream_stays { OnErr result (messages.new ≡ messages.old) }
     ensures piece { length piece.new ≡ length piece.old }
 {
@@ -218,11 +244,15 @@ fn finish<W: Sink>(messages: &mut Messages, sink: &mut W) -> Ended
     requires asked { messages.old.last ≡ Some Next.More }
     requires not_closed { messages.old.closed ≡ false }
     ensures done { result ≡ Ended.Done → ItemsFrom messages.old [] true [] × (sink.new ≡ sink.old) }
-    ensures refused { result ≡ Ended.Refused → (fault : Fault) × ItemsFrom messages.old [] true (fault_item fault ∷ []) × (W.written sink.new ≡ then_more (W.written sink.old) (fault_text fault)) }
-    ensures broken { result ≡ Ended.SinkFailed → (fault : Fault) × ItemsFrom messages.old [] true (fault_item fault ∷ []) × HoldsPart (W.written sink.old) (W.written sink.new) (fault_text fault) }
-    ensures rose { result ≡ Ended.SinkFailed → Rose (W.faults sink.old) (W.faults sink.new) }
+    ensures refused { result ≡ Ended.Refused → (fault : Fault) × ItemsFrom messages.old [] true (fault_item fault ∷ [])
+        × ((W.told sink.new).written ≡ then_more (W.told sink.old).written (fault_text fault)) }
+    ensures broken { result ≡ Ended.SinkFailed → (fault : Fault)
+        × ItemsFrom messages.old [] true (fault_item fault ∷ [])
+        × HoldsPart (W.told sink.old).written (W.told sink.new).written (fault_text fault) }
+    ensures rose { result ≡ Ended.SinkFailed → Rose (W.told sink.old).faults (W.told sink.new).faults }
+    ensures kept { result ≢ Ended.SinkFailed → (W.told sink.new).faults ≡ (W.told sink.old).faults }
     ensures either { (result ≡ Ended.Done) ⊎ (result ≡ Ended.Refused) ⊎ (result ≡ Ended.SinkFailed) }
-    ensures counts { W.faults sink.old ≤ W.faults sink.new }
+    ensures counts { (W.told sink.old).faults ≤ (W.told sink.new).faults }
 {
     match messages.end() {
         None => return Ended::Done,
@@ -232,12 +262,16 @@ fn finish<W: Sink>(messages: &mut Messages, sink: &mut W) -> Ended
 
 /// Tells a fault of the stream.
 fn refuse<W: Sink>(sink: &mut W, fault: Fault) -> Ended
-    ensures refused { result ≡ Ended.Refused → W.written sink.new ≡ then_more (W.written sink.old) (fault_text fault) }
-    ensures broken { result ≡ Ended.SinkFailed → HoldsPart (W.written sink.old) (W.written sink.new) (fault_text fault) × Rose (W.faults sink.old) (W.faults sink.new) }
+    ensures refused { result ≡ Ended.Refused
+        → (W.told sink.new).written ≡ then_more (W.told sink.old).written (fault_text fault) }
+    ensures broken { result ≡ Ended.SinkFailed
+        → HoldsPart (W.told sink.old).written (W.told sink.new).written (fault_text fault)
+        × Rose (W.told sink.old).faults (W.told sink.new).faults }
+    ensures kept { result ≢ Ended.SinkFailed → (W.told sink.new).faults ≡ (W.told sink.old).faults }
     ensures either { (result ≡ Ended.Refused) ⊎ (result ≡ Ended.SinkFailed) }
-    ensures counts { W.faults sink.old ≤ W.faults sink.new }
+    ensures counts { (W.told sink.old).faults ≤ (W.told sink.new).faults }
 {
-    match send_fault(sink, fault) {
+    match send_fixed(sink, Fixed::Fault(fault)) {
         Ok(()) => Ended::Refused,
         Err(Failed) => Ended::SinkFailed,
     }

@@ -1,6 +1,9 @@
+//! What a request target names.
+
 ghost use Rattle.std.specs.Prelude.{◌≡◌, ◌==◌, get_or, Some};
 ghost use Rattle.std.specs.List.{before_first, after_first};
-ghost use Rattle.cds_desk.specs.Routes.{route_table, is_slash, path_of, name_part, behind_name, behind_versions, path_number, named_on, trace_version, method_version, target_of, route_of};
+ghost use Rattle.cds_desk.specs.Routes.{route_table, is_slash, path_of, segment, number_at, number_in_path};
+ghost use Rattle.cds_desk.specs.Routes.{path_number, named_on, target_of};
 
 use crate::routes::{Route, find};
 use crate::words::number_in;
@@ -10,34 +13,18 @@ use matchit::Router;
 /// The greatest number that a path can name.
 const MOST_PATH_NUMBER: u32 = 4_294_967_295;
 
+/// The place of the name among the segments of a path.
+const NAME_PLACE: u32 = 2;
+
 /// What a request target names.
 #[derive(Clone, Copy, Debug)]
-pub(crate) enum Target {
-    /// A trace, by its name.
-    Trace(Name),
-    /// A version of a trace, by the trace's name and the version's number.
-    TraceVersion(Name, u32),
-    /// The draft of a method, by the method's name.
-    Draft(Name),
-    /// The versions of a method, by its name.
-    MethodVersions(Name),
-    /// A version of a method, by the method's name and the version's number.
-    MethodVersion(Name, u32),
-}
-
-impl Target {
-    /// The route on which it is named.
-    pub(crate) fn route(self) -> Route
-        ensures { result ≡ route_of self }
-    {
-        match self {
-            Target::Trace(_) => Route::PutTrace,
-            Target::TraceVersion(_, _) => Route::GetTrace,
-            Target::Draft(_) => Route::PutDraft,
-            Target::MethodVersions(_) => Route::PostVersion,
-            Target::MethodVersion(_, _) => Route::GetMethod,
-        }
-    }
+pub struct Target {
+    /// The route that its path fits.
+    pub route: Route,
+    /// The name in the path.
+    pub name: Name,
+    /// The number in the path; 0 where the paths of the route have none.
+    pub number: u32,
 }
 
 /// What the request target names. None exactly where its path, which ends before the first `?`, fits no pattern, or
@@ -63,6 +50,43 @@ fn path_of(target: &str) -> &str
     }
 }
 
+/// What the path names on this route.
+fn named_on(route: Route, path: &str) -> Option<Target>
+    ensures { result ≡ named_on route path.now }
+{
+    let Some(name) = Name::new(segment(path, NAME_PLACE).as_bytes()) else {
+        return None;
+    };
+    let Some(number) = number_in_path(path, route.number_at()) else {
+        return None;
+    };
+    Some(Target {
+        route,
+        name,
+        number,
+    })
+}
+
+/// The number that a path has at this place, and 0 where it has no place for one.
+fn number_in_path(path: &str, place: Option<u32>) -> Option<u32>
+    ensures { result ≡ number_in_path path.now place }
+{
+    match place {
+        Some(place) => path_number(segment(path, place)),
+        None => Some(0),
+    }
+}
+
+/// The segment of a path at a place; at 0 stands what is before the first slash.
+fn segment(path: &str, place: u32) -> &str
+    ensures { result.now ≡ segment path.now place }
+{
+    if place == 0 {
+        return before_slash(path);
+    }
+    segment(after_slash(path), place - 1)
+}
+
 /// What stands before the first slash.
 fn before_slash(text: &str) -> &str
     ensures { result.now ≡ before_first is_slash text.now }
@@ -83,20 +107,6 @@ fn after_slash(text: &str) -> &str
     }
 }
 
-/// `{name}`, the second part of a path.
-fn name_part(path: &str) -> &str
-    ensures { result.now ≡ name_part path.now }
-{
-    before_slash(after_slash(after_slash(path)))
-}
-
-/// What stands behind `{name}` and its slash.
-fn behind_name(path: &str) -> &str
-    ensures { result.now ≡ behind_name path.now }
-{
-    after_slash(after_slash(after_slash(path)))
-}
-
 /// The number that this part of a path writes, 1 to 4,294,967,295 without leading zeros.
 fn path_number(part: &str) -> Option<u32>
     ensures { result ≡ path_number part.now }
@@ -112,47 +122,4 @@ fn begins_with_zero(part: &str) -> bool
     ensures { result ≡ (get_or part.now 0 48 == 48) }
 {
     part.is_empty() || part.as_bytes()[0] == b'0'
-}
-
-/// What stands behind `versions` and its slash.
-fn behind_versions(path: &str) -> &str
-    ensures { result.now ≡ behind_versions path.now }
-{
-    after_slash(behind_name(path))
-}
-
-/// What the path names on this route.
-fn named_on(route: Route, path: &str) -> Option<Target>
-    ensures { result ≡ named_on route path.now }
-{
-    let Some(name) = Name::new(name_part(path).as_bytes()) else {
-        return None;
-    };
-    match route {
-        Route::PutTrace => Some(Target::Trace(name)),
-        Route::GetTrace => trace_version(name, behind_name(path)),
-        Route::PutDraft => Some(Target::Draft(name)),
-        Route::PostVersion => Some(Target::MethodVersions(name)),
-        Route::GetMethod => method_version(name, behind_versions(path)),
-    }
-}
-
-/// The version of a trace that this part of a path numbers.
-fn trace_version(name: Name, part: &str) -> Option<Target>
-    ensures { result ≡ trace_version name (path_number part.now) }
-{
-    let Some(version) = path_number(part) else {
-        return None;
-    };
-    Some(Target::TraceVersion(name, version))
-}
-
-/// The version of a method that this part of a path numbers.
-fn method_version(name: Name, part: &str) -> Option<Target>
-    ensures { result ≡ method_version name (path_number part.now) }
-{
-    let Some(version) = path_number(part) else {
-        return None;
-    };
-    Some(Target::MethodVersion(name, version))
 }

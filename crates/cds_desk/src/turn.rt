@@ -1,24 +1,28 @@
 //! The turn of one request: its answer is prepared, its change is kept and carried out, and its response is written.
-ghost use Rattle.std.specs.Prelude.{◌≡◌, ◌≤◌, ◌^◌, ◌<◌, true, length, ℕ, List, Option, Some, None, IfOk, IfSome, OnOk, OnErr};
+ghost use Rattle.std.specs.Prelude.{◌≡◌, ◌≤◌, ◌<◌, true, length, ℕ, List, Option, Some, None, IfOk, IfSome, OnOk};
+ghost use Rattle.std.specs.Prelude.{OnErr};
 ghost use Rattle.cds_base.specs.Faults.{Rose};
 ghost use Rattle.cds_book.specs.Plan.{room_of};
 ghost use Rattle.cds_base.specs.Told.{then_more};
-ghost use Rattle.cds_desk.specs.Sending.{HoldsPart};
-ghost use Rattle.cds_desk.specs.Response.{response_text};
+ghost use Rattle.cds_keep.specs.declared.keeper.TheConstants.{RECORD_LIMIT};
+ghost use Rattle.cds_respond.specs.Sending.{HoldsPart};
+ghost use Rattle.cds_desk.specs.Serving.{lasting, FindsOn};
+ghost use Rattle.cds_respond.specs.Response.{response_text};
 ghost use Rattle.cds_desk.specs.Routes.{route_table};
-ghost use Rattle.cds_desk.specs.Step.{IsPlanned};
+ghost use Rattle.cds_desk.specs.Judged.{reply_of, change_of};
+ghost use Rattle.cds_desk.specs.Commands.{IsPlanned};
 ghost use Rattle.cds_desk.specs.Turn.{judged_of, KeepsChange, Comes, answered_text};
 
-use crate::judge::{Judged, judge};
-use crate::response::response_text;
+use crate::judge::judge;
+use crate::judged::Judged;
 use crate::routes::Route;
-use crate::sending::send;
+use crate::state::State;
 use crate::target::read_target;
-use crate::without_memory::{send_keeper_failed, send_no_memory};
-use cds_base::{Bytes, Failed, NoMemory, Sink};
-use cds_book::{Change, Tables};
+use cds_base::{Bytes, Clock, Failed, NoMemory, Sink};
+use cds_book::Change;
 use cds_codec::write;
 use cds_keep::{Keeper, PutError};
+use cds_respond::{Fixed, response_text, send, send_fixed};
 use matchit::Router;
 use std::alloc::Global;
 
@@ -51,66 +55,88 @@ struct Prepared {
 /// How a request is answered.
 #[derive(Drop)]
 pub(crate) enum Answered {
+    /// With this response.
     Response(Bytes),
+    /// Memory was wanting before anything was put.
     NoMemory,
+    /// The keeper found no memory for the record.
+    NotKept,
+    /// The keeper failed.
     KeeperFailed,
 }
 
-/// Prepares the answer to a request. Nothing is changed, but room is taken for the change.
-#[tactic(auto, using(crate::proofs::TurnLaws::planned_has_record))]
-fn prepare(
+/// Prepares the answer to a request. Nothing is changed, but room is taken for the change. No request asks the clock
+/// yet.
+fn prepare<C: Clock>(
     alloc: Global,
     router: &Router<Route>,
-    tables: &mut Tables,
+    state: &mut State,
+    _clock: &mut C,
     asked: Asked<'_>,
 ) -> Result<Prepared, NoMemory>
     requires { router.now ≡ route_table }
-    ensures state { tables.new.state ≡ tables.old.state }
-    ensures response { IfOk result (λ p. p.response ≡ response_text (judged_of tables.old.state asked.entry).reply asked.entry.close asked.entry.without_body) }
-    ensures kept { IfOk result (λ p. KeepsChange (judged_of tables.old.state asked.entry).change p.kept) }
-    ensures room { IfOk result (λ p. IfSome p.kept (λ k. tables.new.room ≡ Some (room_of k.change))) }
-    ensures accepted { IfOk result (λ p. IfSome p.kept (λ k. IsPlanned tables.old.state k.change)) }
-    ensures short { IfOk result (λ p. IfSome p.kept (λ k. length k.record < 2 ^ 32)) }
+    ensures held { state.new.held ≡ state.old.held }
+    ensures response { IfOk result (λ p. p.response ≡ response_text
+        (reply_of (judged_of state.old.held asked.entry)) asked.entry.close asked.entry.without_body) }
+    ensures kept { IfOk result (λ p. KeepsChange (change_of (judged_of state.old.held asked.entry)) p.kept) }
+    ensures room { IfOk result (λ p. IfSome p.kept (λ k. state.new.room ≡ room_of state.old.held.tables k.change)) }
+    ensures accepted { IfOk result (λ p. IfSome p.kept (λ k. IsPlanned state.old.held k.change)) }
+    ensures short { IfOk result (λ p. IfSome p.kept (λ k. length k.record < RECORD_LIMIT)) }
+    ensures clock_stays { _clock.new ≡ _clock.old }
 {
     let target = read_target(router, asked.target);
-    let judged = judge(alloc, tables, target, asked.method, asked.body)?;
-    let response = response_text(alloc, &judged.reply, asked.close, asked.without_body)?;
-    let Judged { change, .. } = judged;
-    let Some(change) = change else {
-        return Ok(Prepared {
-            response,
+    match judge(alloc, state, target, asked.method, asked.body)? {
+        Judged::Reply(reply) => Ok(Prepared {
+            response: response_text(alloc, &reply, asked.close, asked.without_body)?,
             kept: None,
-        });
-    };
-    let record = write(alloc, &change)?;
-    tables.reserve(&change)?;
-    Ok(Prepared {
-        response,
-        kept: Some(Kept { change, record }),
-    })
+        }),
+        Judged::Change { reply, change } => Ok(Prepared {
+            response: response_text(alloc, &reply, asked.close, asked.without_body)?,
+            kept: Some(prepare_change(alloc, state, change)?),
+        }),
+    }
 }
 
+/// Prepares a change: its record is made, and room is taken for it.
+#[tactic(auto, using(crate::proofs::TurnLaws::planned_has_record, crate::proofs::TurnLaws::planned_short))]
+fn prepare_change(alloc: Global, state: &mut State, change: Change) -> Result<Kept, NoMemory>
+    requires { IsPlanned state.old.held change }
+    ensures held { state.new.held ≡ state.old.held }
+    ensures kept { IfOk result (λ k. KeepsChange (Some change) (Some k)) }
+    ensures room { IfOk result (λ k. state.new.room ≡ room_of state.old.held.tables change) }
+    ensures short { IfOk result (λ k. length k.record < RECORD_LIMIT) }
+{
+    let record = write(alloc, &change)?;
+    state.reserve(&change)?;
+    Ok(Kept { change, record })
+}
+
+#[tactic(auto, using(crate::proofs::TurnLaws::finds_same, crate::proofs::TurnLaws::finds_put, crate::proofs::TurnLaws::finds_failed))]
 /// Answers a request. A change is put to the keeper once, when all else is prepared, and then carried out; where
 /// memory is wanting or the keeper fails, all is as before.
-pub(crate) fn answer<K: Keeper>(
+pub(crate) fn answer<K: Keeper, C: Clock>(
     alloc: Global,
     router: &Router<Route>,
-    tables: &mut Tables,
+    state: &mut State,
     keeper: &mut K,
+    clock: &mut C,
     asked: Asked<'_>,
 ) -> Answered
     requires routes { router.now ≡ route_table }
-    requires opened { K.is_open keeper.old ≡ true }
-    ensures comes { (written : Option (List ℕ)) → Comes
-        (record { written = written; content = K.content keeper.old; faults = K.faults keeper.old; tables = tables.old.state })
-        (record { written = written; content = K.content keeper.new; faults = K.faults keeper.new; tables = tables.new.state })
-        (judged_of tables.old.state asked.entry)
-        (response_text (judged_of tables.old.state asked.entry).reply asked.entry.close asked.entry.without_body)
+    requires opened { (K.told keeper.old).is_open ≡ true }
+    ensures comes { Comes
+        (lasting state.old.held (K.told keeper.old))
+        (lasting state.new.held (K.told keeper.new))
+        (judged_of state.old.held asked.entry)
+        (response_text (reply_of (judged_of state.old.held asked.entry)) asked.entry.close asked.entry.without_body)
         result }
-    ensures stays_open { K.is_open keeper.new ≡ true }
-    ensures counts { K.faults keeper.old ≤ K.faults keeper.new }
+    ensures finds { (name : List ℕ)
+        → FindsOn (K.finds keeper.old name) (K.finds keeper.new name) (K.told keeper.old) (K.told keeper.new) }
+    ensures stays_open { (K.told keeper.new).is_open ≡ true }
+    ensures counts { (K.told keeper.old).faults ≤ (K.told keeper.new).faults }
+    ensures clock_stays { clock.new ≡ clock.old }
 {
-    let Ok(prepared) = prepare(alloc, router, tables, asked) else {
+    let Ok(prepared) = prepare(alloc, router, state, clock, asked) else {
         return Answered::NoMemory;
     };
     let Prepared { response, kept } = prepared;
@@ -119,10 +145,10 @@ pub(crate) fn answer<K: Keeper>(
     };
     match keeper.put(kept.record.as_slice()) {
         Ok(()) => {
-            tables.apply(kept.change);
+            state.apply(kept.change);
             Answered::Response(response)
         }
-        Err(PutError::NoMemory) => Answered::NoMemory,
+        Err(PutError::NoMemory) => Answered::NotKept,
         Err(PutError::Failed) => Answered::KeeperFailed,
     }
 }
@@ -134,14 +160,33 @@ pub(crate) fn write_answer<W: Sink>(
     close: bool,
     without_body: bool,
 ) -> Result<(), Failed>
-    ensures whole { OnOk result (W.written sink.new ≡ then_more (W.written sink.old) (answered_text answered.now close without_body)) }
-    ensures prefix { OnErr result (HoldsPart (W.written sink.old) (W.written sink.new) (answered_text answered.now close without_body)) }
-    ensures counts { W.faults sink.old ≤ W.faults sink.new }
-    ensures failed { OnErr result (Rose (W.faults sink.old) (W.faults sink.new)) }
+    ensures whole { OnOk result ((W.told sink.new).written ≡ then_more (W.told sink.old).written
+        (answered_text answered.now close without_body)) }
+    ensures prefix { OnErr result (HoldsPart (W.told sink.old).written (W.told sink.new).written
+        (answered_text answered.now close without_body)) }
+    ensures kept { OnOk result ((W.told sink.new).faults ≡ (W.told sink.old).faults) }
+    ensures counts { (W.told sink.old).faults ≤ (W.told sink.new).faults }
+    ensures failed { OnErr result (Rose (W.told sink.old).faults (W.told sink.new).faults) }
 {
     match answered {
         Answered::Response(response) => return send(sink, response.as_slice()),
-        Answered::NoMemory => return send_no_memory(sink, close, without_body),
-        Answered::KeeperFailed => return send_keeper_failed(sink, close, without_body),
+        Answered::NoMemory | Answered::NotKept => {
+            return send_fixed(
+                sink,
+                Fixed::NoMemory {
+                    close,
+                    without_body,
+                },
+            );
+        }
+        Answered::KeeperFailed => {
+            return send_fixed(
+                sink,
+                Fixed::KeeperFailed {
+                    close,
+                    without_body,
+                },
+            );
+        }
     }
 }

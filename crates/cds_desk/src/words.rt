@@ -1,13 +1,20 @@
-ghost use Rattle.std.specs.Prelude.{◌≡◌, ◌≤◌, IsTrue, IfSome, map};
+//! The words of the command line.
+
+ghost use Rattle.std.specs.Prelude.{◌≡◌, ◌≤◌, IsTrue, IfSome, map, option_map};
 ghost use Rattle.std.specs.Char.{is_ascii_digit};
 ghost use Rattle.std.specs.List.{list_all};
 ghost use Rattle.std.specs.Str.{bytes_eq};
 ghost use Rattle.std.specs.Str.Parse.{digits_value};
 ghost use Rattle.std.specs.String.{string_bytes};
 ghost use Rattle.cds_rules.specs.Ranges.{SlopeRanges};
-ghost use Rattle.cds_desk.specs.Words.{is_session, States, HasRanges, options_of, are_peaks_words, number_in, number_of, is_number, below_2_64};
+ghost use Rattle.cds_desk.specs.Words.{is_session, command_is, command_of, HasRanges, options_of, are_peaks_words};
+ghost use Rattle.cds_desk.specs.Words.{number_in, number_of, is_number, below_limit};
 
-use cds_rules::{MOST_BUNCH, MOST_PLATEAU, MOST_SLOPE};
+use cds_base::MOST_SLOPE;
+use cds_rules::{MOST_BUNCH, MOST_PLATEAU};
+
+/// The most digits of a number.
+const MOST_DIGITS: usize = 20;
 
 /// What the words of `peaks` set.
 #[derive(Clone, Copy, Debug, PartialEq, Eq)]
@@ -20,21 +27,20 @@ pub struct PeaksOptions {
 
 /// The command that the words state.
 #[derive(Clone, Copy, Debug, PartialEq, Eq)]
-pub enum CommandLine {
+pub enum CommandLine<'w> {
     /// `peaks` with its options.
     Peaks(PeaksOptions),
-    /// `session` alone.
-    Session,
+    /// `session` over the store of this name.
+    Session(&'w str),
 }
 
 /// The command that the words state. None exactly where they are no command.
-#[tactic(auto, using(crate::proofs::Commands::session_states_no_options))]
-pub(crate) fn read_words(words: &[String]) -> Option<CommandLine>
-    ensures value { States (map string_bytes words.now) result }
+pub(crate) fn read_words(words: &[String]) -> Option<CommandLine<'_>>
+    ensures value { option_map command_is result ≡ command_of (map string_bytes words.now) }
     ensures ranges { IfSome result HasRanges }
 {
     if is_session(words) {
-        return Some(CommandLine::Session);
+        return Some(CommandLine::Session(""));
     }
     let Some(options) = read_peaks(words) else {
         return None;
@@ -125,7 +131,7 @@ fn number_of(text: &str) -> Option<u64>
 fn is_number(text: &str) -> bool
     ensures { result ≡ is_number text.now }
 {
-    1 <= text.len() && text.len() <= 20 && are_digits(text)
+    1 <= text.len() && text.len() <= MOST_DIGITS && are_digits(text)
 }
 
 fn are_digits(text: &str) -> bool
@@ -136,7 +142,7 @@ fn are_digits(text: &str) -> bool
 
 fn parse_digits(digits: &str) -> Option<u64>
     requires { IsTrue (is_number digits.now) }
-    ensures { result ≡ below_2_64 (digits_value 10 digits.now) }
+    ensures { result ≡ below_limit (digits_value 10 digits.now) }
 {
     digits.parse::<u64>().ok()
 }

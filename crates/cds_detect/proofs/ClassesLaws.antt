@@ -4,9 +4,8 @@ use Rattle.std.proofs.lemmas.List.FromFn.{length-map-range_with_len, get_or-map-
 use Rattle.cds_trace.specs.Signal.{Signal}
 use Rattle.cds_detect.specs.declared.class.Class.TheVariants.{Flat}
 use Rattle.cds_detect.specs.declared.class.Class.{Class}
-use Rattle.cds_detect.specs.declared.slopes.Slopes.{Slopes}
 use Rattle.cds_detect.specs.Classes.{Settings, class_count, class_of, class_between, classes, bunch_sum}
-use Rattle.cds_detect.specs.Slopes.{is_inhibited, slopes_at}
+use Rattle.cds_detect.specs.Slopes.{Slopes, is_inhibited, slopes_at}
 use Rattle.cds_base.specs.declared.event.Event.{Event}
 use Rattle.std.proofs.lemmas.Grind.{common_steps}
 use Rattle.cds_detect.specs.Spans.{class_at}

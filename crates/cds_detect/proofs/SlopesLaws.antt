@@ -3,8 +3,7 @@ use Rattle.std.proofs.Common.{◌≡◌, ℕ, ◌+◌, ◌<◌, List, [], ◌∷
 use Rattle.std.proofs.lemmas.Grind.{take_at_read}
 use Rattle.std.proofs.lemmas.Bool.Decides.{nat_tests}
 use Rattle.cds_base.specs.declared.event.Event.{Event}
-use Rattle.cds_detect.specs.declared.slopes.Slopes.{Slopes}
-use Rattle.cds_detect.specs.Slopes.{later_of, in_force, slopes_set}
+use Rattle.cds_detect.specs.Slopes.{Slopes, later_of, in_force, slopes_set}
 
 later_of-none : (a : Option Slopes) → later_of a None ≡ a
 later_of-none None = refl

@@ -1,5 +1,5 @@
 -- How the list of raw peaks grows as the search for them goes on.
-use Rattle.std.proofs.Common.{◌≡◌, ℕ, ◌*◌, ◌<◌, ◌≤◌, true, false, List, [], ◌∷◌, ◌++◌, length, refl, arith, ap, sym, ◌∙◌, inl, inr, append_assoc}
+use Rattle.std.proofs.Common.{◌≡◌, ℕ, ◌+◌, ◌*◌, ◌<◌, ◌≤◌, true, false, List, [], ◌∷◌, ◌++◌, length, refl, arith, ap, sym, ◌∙◌, inl, inr, append_assoc}
 use Rattle.std.specs.List.{filter}
 use Rattle.std.proofs.Math.Nat.{mul-le-mul_right}
 use Rattle.std.proofs.lemmas.Bool.{cases_lt, cases_Bool}
@@ -12,7 +12,7 @@ use Rattle.cds_detect.specs.Raw.{end_sample, peak_between, peak_of, is_peak, pea
 use Rattle.cds_trace.proofs.LeastLaws.{least-low}
 use Rattle.cds_detect.proofs.SpansLaws.{climb-low, down-before, fall-low, later_spans-end, later_spans-none, later_spans-abandoned, later_spans-peak}
 use Rattle.cds_detect.proofs.ClassesLaws.{length-classes}
-use Rattle.cds_detect.proofs.PlaceLaws.{end_sample-class, end_sample-behind}
+use Rattle.cds_detect.proofs.PlaceLaws.{end_sample-class, end_sample-behind, end_sample-within}
 
 -- the raw peaks that begin at class k or behind it
 abbrev pub peaks_on : Signal → Settings → ℕ → List RawPeak
@@ -87,3 +87,32 @@ end_sample-rises signal bunch k e some l m n = elim (cases_lt k e) [
 
 pub end_sample-start : (signal : Signal) (bunch k s : ℕ) → k ≤ s → s < class_count (length signal.samples) bunch → end_sample signal bunch k ≤ s * bunch
 end_sample-start signal bunch k s l m = rw (end_sample-class signal bunch k (omega arith)) (mul-le-mul_right bunch l)
+
+-- how the places of a turn follow one another, where its climb ends in a fall
+pub record Turned (signal : Signal) (settings : Settings) (k s top end : ℕ) : Type 0 where
+  pub low : k ≤ s
+  pub rises : s < top
+  pub falls : top < end
+  -- the same in samples, and the fall ends within the trace
+  pub near : end_sample signal settings.bunch k ≤ s * settings.bunch
+  pub far : s * settings.bunch + 1 ≤ end_sample signal settings.bunch end
+  pub last : end_sample signal settings.bunch end + 1 ≤ length signal.samples
+
+pub turned : (signal : Signal) (settings : Settings) (k s top end : ℕ) (class : Class) → 1 ≤ settings.bunch →
+    2 ≤ length signal.samples → k < class_count (length signal.samples) settings.bunch →
+    s ≡ next_up (classes signal settings) k → s < class_count (length signal.samples) settings.bunch →
+    top ≡ climb (classes signal settings) settings.plateau s → class ≡ class_at (classes signal settings) top →
+    is_down class ≡ true → end ≡ fall (classes signal settings) top →
+    end ≤ class_count (length signal.samples) settings.bunch → Turned signal settings k s top end
+turned signal settings k s top end class some enough k_in s_is s_in top_is class_is down end_is end_in =
+    let low : k ≤ s = turn-start signal settings k s k_in s_is in
+    let rises : s < top = turn-top signal settings s top s_in top_is in
+    let falls : top < end = turn-end signal settings top end class class_is down end_is in
+    record {
+      low = low;
+      rises = rises;
+      falls = falls;
+      near = end_sample-start signal settings.bunch k s low s_in;
+      far = end_sample-behind signal settings.bunch s end some (omega arith) end_in;
+      last = end_sample-within signal settings.bunch end some enough end_in;
+    }

@@ -6,8 +6,7 @@ use Rattle.cds_trace.specs.Signal.{Signal, sum_between}
 use Rattle.cds_detect.specs.declared.class.Class.{Class}
 use Rattle.cds_detect.specs.declared.class.TheConstants.{SECOND_US}
 use Rattle.cds_detect.specs.declared.class.Class.TheVariants.{Inhibited, Up, Down, Flat}
-use Rattle.cds_detect.specs.declared.slopes.Slopes.{Slopes}
-use Rattle.cds_detect.specs.Slopes.{is_inhibited, slopes_at}
+use Rattle.cds_detect.specs.Slopes.{Slopes, is_inhibited, slopes_at}
 
 -- by what peaks are found
 pub record Settings : Type 0 where
@@ -47,8 +46,10 @@ abbrev pub class_of : Signal → Settings → ℕ → Class
 class_of signal settings j =
     let time = j * settings.bunch * signal.period in
     if is_inhibited settings.events time then Inhibited
-    else class_between (slopes_at settings.own settings.events time) settings.bunch signal.period (bunch_sum signal settings.bunch j) (bunch_sum signal settings.bunch (j + 2))
+    else class_between (slopes_at settings.own settings.events time) settings.bunch signal.period
+    (bunch_sum signal settings.bunch j) (bunch_sum signal settings.bunch (j + 2))
 
 -- the classes of a trace, in the order of their bunches
 unfoldable pub classes : Signal → Settings → List Class
-classes signal settings = map (class_of signal settings) (range_with_len 0 (class_count (length signal.samples) settings.bunch))
+classes signal settings =
+    map (class_of signal settings) (range_with_len 0 (class_count (length signal.samples) settings.bunch))

@@ -7,7 +7,12 @@ use Rattle.cds_base.specs.EventTime.{is_in_window}
 use Rattle.cds_base.specs.declared.time.TheConstants.{MILLISECOND_US}
 use Rattle.cds_base.specs.declared.event.Event.{Event}
 use Rattle.cds_base.specs.declared.event.Event.TheVariants.{Inhibit, Valley, Drop, Baseline, Slope, Skim}
-use Rattle.cds_detect.specs.declared.slopes.Slopes.{Slopes}
+
+-- slope thresholds in counts per second, and the time in milliseconds from which on they are in force
+pub record Slopes : Type 0 where
+  pub at : ℕ
+  pub on : ℕ
+  pub off : ℕ
 
 -- the event forbids peaks at the time
 abbrev pub inhibits : ℕ → Event → Bool
@@ -28,7 +33,8 @@ slopes_set time (Inhibit from to) = None
 slopes_set time (Valley from to) = None
 slopes_set time (Drop at) = None
 slopes_set time (Baseline from to) = None
-slopes_set time (Slope at on off) = if nat_le (MILLISECOND_US * at) time then Some (record { at = at; on = on; off = off }) else None
+slopes_set time (Slope at on off) = if nat_le (MILLISECOND_US * at) time
+    then Some (record { at = at; on = on; off = off }) else None
 slopes_set time (Skim from to) = None
 
 -- of two settings the one with the greater time, and the second where the times are equal

@@ -41,12 +41,14 @@ class_at classes k = slice_index_or classes k Flat
 abbrev pub is_flat_before : List Class → ℕ → ℕ → ℕ → Bool
 is_flat_before classes s zero k = true
 is_flat_before classes s (suc count) zero = false
-is_flat_before classes s (suc count) (suc k) = (nat_lt s k && is_flat (class_at classes k)) && is_flat_before classes s count k
+is_flat_before classes s (suc count) (suc k) = (nat_lt s k && is_flat (class_at classes k))
+    && is_flat_before classes s count k
 
 -- a climb from s ends at k: its class is down or inhibited, or it is flat and so are the `plateau` classes before it, all after s
 abbrev pub ends_climb : List Class → ℕ → ℕ → ℕ → Bool
 ends_climb classes plateau s k =
-    (is_down (class_at classes k) || is_inhibited_class (class_at classes k)) || (is_flat (class_at classes k) && is_flat_before classes s plateau k)
+    (is_down (class_at classes k) || is_inhibited_class (class_at classes k))
+    || (is_flat (class_at classes k) && is_flat_before classes s plateau k)
 
 -- a climb begins at s: its class is up
 abbrev pub begins_climb : List Class → ℕ → Bool

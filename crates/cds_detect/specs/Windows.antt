@@ -12,8 +12,10 @@ use Rattle.cds_detect.specs.Raw.{end_sample, peaks_of}
 pub record Stands (signal : Signal) (settings : Settings) (window : Window) : Type 0 where
   pub within : window.at ≤ class_count (length signal.samples) settings.bunch
   pub class : window.class ≡ class_at (classes signal settings) window.at
-  pub middle : window.at < class_count (length signal.samples) settings.bunch → window.middle ≡ bunch_sum signal settings.bunch (window.at + 1)
-  pub far : window.at < class_count (length signal.samples) settings.bunch → window.far ≡ bunch_sum signal settings.bunch (window.at + 2)
+  pub middle : window.at < class_count (length signal.samples) settings.bunch
+      → window.middle ≡ bunch_sum signal settings.bunch (window.at + 1)
+  pub far : window.at < class_count (length signal.samples) settings.bunch
+      → window.far ≡ bunch_sum signal settings.bunch (window.at + 2)
   pub middle_range : IsBunchSum window.middle
   pub far_range : IsBunchSum window.far
 

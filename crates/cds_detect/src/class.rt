@@ -14,9 +14,10 @@ use cds_trace::Trace;
 /// A second, in microseconds: slopes are in counts per second, and times in microseconds.
 pub(crate) const SECOND_US: u128 = 1_000_000;
 
-/// Whether the signal rises over two bunches, falls, does neither, or no peak may be there.
+/// The class of a bunch: whether the signal rises from it over two bunches, falls, does neither, or no peak may be
+/// there. Definitions speak of it, and no answer has one.
 #[derive(Clone, Copy, Debug)]
-pub(crate) enum Class {
+pub enum Class {
     /// An event forbids peaks at the time of the bunch.
     Inhibited,
     /// The signal rises by at least the slope that begins a peak.

@@ -12,6 +12,7 @@ mod raw;
 mod scan;
 mod slopes;
 
+pub use class::Class;
 pub use detect::raw_peaks;
 pub use laws::the_limits;
 pub use raw::{MOST_RAW_PEAKS, Raw, RawPeaks};

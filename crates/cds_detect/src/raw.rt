@@ -24,7 +24,7 @@ impl Model for RawPeaks {
 
 impl RawPeaks {
     /// The list of these items. It takes no memory.
-    pub fn from_vec(items: Vec<RawPeak>) -> RawPeaks
+    pub(crate) fn from_vec(items: Vec<RawPeak>) -> RawPeaks
         ensures { result ≡ items.items }
     {
         RawPeaks { items }

@@ -6,13 +6,25 @@ ghost use Rattle.cds_rules.specs.Fields.{fields_of};
 
 use cds_base::{Event, MILLISECOND_US, is_in_window};
 use cds_rules::Method;
+use std::marker::Model;
 
-/// Slope thresholds in counts per second, and the time in milliseconds from which on they are in force.
+/// Slope thresholds in counts per second, and the time in milliseconds from which on they are in force. Seen as a plain
+/// record.
 #[derive(Clone, Copy, Debug)]
 pub(crate) struct Slopes {
     pub at: u32,
     pub on: u32,
     pub off: u32,
+}
+
+impl Model for Slopes {
+    ghost use Rattle.cds_detect.specs.Slopes.{Slopes as Shown};
+
+    ghost Value = { Shown };
+
+    ghost view = { λ s. record { at = s.at; on = s.on; off = s.off } };
+
+    ghost inverse = { λ s. record { at = s.at; on = s.on; off = s.off } };
 }
 
 /// Whether one of the events forbids peaks at the time, in microseconds.
@@ -36,7 +48,8 @@ fn inhibits(event: Event, time: u64) -> bool
 /// row's, and the method's own where there is none.
 #[tactic(auto, using(crate::proofs::SlopesLaws::more_laws))]
 pub(crate) fn slopes_at(method: &Method, manual: &[Event], time: u64) -> Slopes
-    ensures { let settings = settings_of (fields_of method.now) manual.now in result ≡ slopes_at settings.own settings.events time }
+    ensures { let settings = settings_of (fields_of method.now) manual.now in result
+        ≡ slopes_at settings.own settings.events time }
 {
     let own = Slopes {
         at: 0,

@@ -5,7 +5,7 @@ use Rattle.cds_base.specs.declared.event.Event.{Event}
 use Rattle.cds_base.specs.declared.peak.RawPeak.{RawPeak}
 use Rattle.cds_base.specs.declared.cluster.Cut.TheVariants.{Start}
 use Rattle.cds_base.specs.declared.cluster.Cluster.{Cluster}
-use Rattle.cds_rules.specs.Fields.{Fields}
+use Rattle.cds_rules.specs.Fields.{Fields, row_events}
 use Rattle.cds_trace.specs.Signal.{Signal}
 use Rattle.cds_events.specs.Placed.{Placed}
 use Rattle.cds_events.specs.Pieces.{pieces_of}
@@ -46,3 +46,7 @@ abbrev pub clusters_of : Signal → ℕ → List Event → List RawPeak → List
 clusters_of signal gap events raw =
     let pieces = pieces_of signal events in
     map (cluster_of signal (drop_samples signal.period events)) (runs_of (fused gap pieces) (placed_peaks pieces raw))
+
+-- the clusters of raw peaks under what a method states and the events of a row
+abbrev pub clusters_under : Signal → Fields → List Event → List RawPeak → List Cluster
+clusters_under signal fields manual raw = clusters_of signal (gap_of fields) (row_events fields manual) raw

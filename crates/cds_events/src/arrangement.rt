@@ -1,9 +1,9 @@
 //! The raw peaks of a trace arranged to clusters.
-ghost use Rattle.std.specs.Prelude.{◌≡◌, ◌+◌, ◌*◌, ◌<◌, ◌≤◌, ◌++◌, IfOk, length, map};
-ghost use Rattle.cds_rules.specs.Fields.{fields_of};
+ghost use Rattle.std.specs.Prelude.{◌≡◌, ◌+◌, ◌*◌, ◌<◌, ◌≤◌, IfOk, length, map};
+ghost use Rattle.cds_rules.specs.Fields.{fields_of, row_events};
 ghost use Rattle.cds_events.specs.Runs.{fused, runs_of};
 ghost use Rattle.cds_events.specs.Drops.{drop_count};
-ghost use Rattle.cds_events.specs.Arrangement.{gap_of, cluster_of, clusters_of, start_of, end_of};
+ghost use Rattle.cds_events.specs.Arrangement.{cluster_of, clusters_under, start_of, end_of};
 ghost use Rattle.cds_trace.specs.Standing.{RawFrom};
 ghost use Rattle.cds_events.specs.Standing.{ClustersFrom, part_count};
 ghost use Rattle.cds_events.specs.Ordered.{AreOrdered, RunsFrom};
@@ -51,10 +51,10 @@ pub fn arrange<L: Ledger>(
 ) -> Result<Clusters, NoMemory>
     requires { RawFrom trace.now 0 raw.now }
     ensures value { IfOk result (λ clusters.
-        clusters ≡ clusters_of trace.now (gap_of (fields_of method.now)) (method.now.events ++ manual.now) raw.now) }
+        clusters ≡ clusters_under trace.now (fields_of method.now) manual.now raw.now) }
     ensures stand { IfOk result (λ clusters. ClustersFrom trace.now 0 clusters) }
     ensures few { IfOk result (λ clusters.
-        part_count clusters ≤ length raw.now + drop_count (method.now.events ++ manual.now)) }
+        part_count clusters ≤ length raw.now + drop_count (row_events (fields_of method.now) manual.now)) }
     ensures least { steps.old ≤ steps.new }
     ensures most { steps.new ≤ steps.old + 3 * length trace.now.samples }
 {

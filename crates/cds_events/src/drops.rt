@@ -1,5 +1,5 @@
 //! Drop lines, which cut parts.
-ghost use Rattle.std.specs.Prelude.{◌≡◌, ◌+◌, ◌-◌, ◌*◌, ◌≤◌, ◌++◌, ◌∷◌, [], All, OnOk, IfOk};
+ghost use Rattle.std.specs.Prelude.{◌≡◌, ◌+◌, ◌-◌, ◌*◌, ◌≤◌, ◌++◌, ◌∷◌, [], All, OnOk, IfOk, false};
 ghost use Rattle.std.specs.List.{sum_by, list_any};
 ghost use Rattle.cds_trace.specs.Signal.{IsTrace};
 ghost use Rattle.cds_events.specs.Drops.{drop_sample, drop_samples, crosses, is_cut, cut_by, front, back, cut_all};
@@ -178,6 +178,7 @@ fn add_pieces<L: Ledger>(
 ) -> Result<(), NoMemory>
     requires { IsInside trace.now part }
     ensures value { OnOk result (pieces.new.items ≡ pieces.old.items ++ cut_all trace.now (part ∷ []) drops.now) }
+    ensures untouched { list_any (λ at. crosses at part) drops.now ≡ false → steps.new ≡ steps.old }
     ensures least { steps.old ≤ steps.new }
     ensures most { steps.new + 2 * part.start ≤ steps.old + 2 * part.end }
 {

@@ -1,11 +1,11 @@
 //! The segments of a part between drop lines, each read once.
-ghost use Rattle.std.specs.Prelude.{◌≡◌, ◌+◌, ◌*◌, ◌<◌, ◌≤◌, All, IfOk, None, length};
+ghost use Rattle.std.specs.Prelude.{◌≡◌, ◌+◌, ◌*◌, ◌<◌, ◌≤◌, ◌⊎◌, All, Contains, IfOk, None, length};
 ghost use Rattle.std.specs.List.{fold};
 ghost use Rattle.cds_events.specs.Segments.{IsSegment, Covers, IsOutside, IsMark, higher, is_within, best_with};
 ghost use Rattle.cds_events.specs.Segments.{top_within};
 
 use cds_base::{NoMemory, Steps};
-use cds_trace::Trace;
+use cds_trace::{Trace, first_greatest};
 use std::alloc::Global;
 use std::sync::ledger::Ledger;
 
@@ -20,12 +20,7 @@ pub(crate) struct Segment {
 }
 
 /// Reads a segment. One step for each sample, its ends among them.
-pub(crate) fn segment_between<L: Ledger>(
-    trace: &Trace,
-    from: u32,
-    to: u32,
-    steps: &mut Steps<L>,
-) -> Segment
+fn segment_between<L: Ledger>(trace: &Trace, from: u32, to: u32, steps: &mut Steps<L>) -> Segment
     requires order { from < to }
     requires end { to < length trace.now.samples }
     ensures value { IsSegment trace.now result }
@@ -33,22 +28,12 @@ pub(crate) fn segment_between<L: Ledger>(
     ensures to { result.to ≡ to }
     ensures counted { steps.new + from ≡ steps.old + to + 1 }
 {
-    let samples = trace.len();
-    prove!(to < samples);
-    let mut top = from;
-    let mut level = trace.at(from, steps);
-    for i in from + 1..to + 1 {
-        let sample = trace.at(i, steps);
-        if sample > level {
-            top = i;
-            level = sample;
-        }
-    }
+    let top = first_greatest(from, to, trace, steps);
     Segment {
         from,
         to,
-        top,
-        level,
+        top: top.sample,
+        level: top.level,
     }
 }
 
@@ -57,6 +42,7 @@ fn next_line(drops: &[u64], from: u32, end: u32) -> u32
     requires { from < end }
     ensures behind { from < result }
     ensures before { result ≤ end }
+    ensures line { (result ≡ end) ⊎ Contains drops.now result }
     ensures clear { All (IsOutside from result) drops.now }
 {
     let mut to = end;

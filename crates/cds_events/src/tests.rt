@@ -2,369 +2,55 @@ ghost use Rattle.std.specs.Prelude.{◌≡◌, ◌<◌, IsTrue};
 ghost use Rattle.cds_trace.specs.Standing.{IsRawPeak, RawFrom};
 
 use super::*;
-use crate::segments::segment_between;
-use cds_base::{Cut, Event, Part, RawPeak, Steps};
+use cds_base::{Cluster, Cut, Event, RawPeak, Steps};
 use cds_rules::Method;
-use cds_trace::Trace;
+use cds_trace::{Trace, first_greatest};
 use std::alloc::Global;
 use std::marker::Brand;
 use std::sync::ledger::{Blank, Ledger};
 use std::test::Fail;
 
+// A line for each row, worked out by hand: what it shows; its samples, one a second; its raw peaks, each as start, apex
+// and end; its manual events; its clusters with their parts, each as start, apex, end and left end. Peaks are fused over
+// at most two samples.
+const ROWS: &str = r#"one peak|0 0 0 10 40 60 40 10 0 0 0|1 5 8||1 to 8: 1 5 8 start.
+two fused peaks|0 0 0 10 40 60 40 20 40 60 40 10 0 0 0|1 5 6 7 9 12||1 to 12: 1 5 7 start, 7 9 12 valley.
+a valley under the line|50 50 50 60 90 110 60 20 60 110 90 60 50 50 50|1 5 6 7 9 12||1 to 12: 1 5 7 start, 7 9 12 valley.
+a valley above half height|0 0 0 10 40 60 50 40 50 60 40 10 0 0 0|1 5 6 7 9 12||1 to 12: 1 5 7 start, 7 9 12 valley.
+no raw peak|7 7|||
+a peak behind a climb that was abandoned|0 0 10 10 10 10 10 10 20 40 20 10 10 10|6 9 11||6 to 11: 6 9 11 start.
+a peak that ends with the trace|0 0 0 20 60 100 80 60 40|1 5 8||1 to 8: 1 5 8 start.
+two samples between peaks|0 0 10 60 10 0 0 0 10 60 10 0|1 3 5 7 9 11||1 to 11: 1 3 5 start, 5 9 11 valley.
+three samples between peaks|0 0 10 60 10 0 0 0 10 60 10 0|1 3 5 8 9 11||1 to 5: 1 3 5 start. 8 to 11: 8 9 11 start.
+a drop behind the apex|0 0 0 10 40 60 40 10 0 0 0|1 5 8|{kind = 'drop', at_ms = 6000}|1 to 8: 1 5 6 start, 6 6 8 drop.
+a drop between two samples, and the same again|0 0 0 10 40 60 40 10 0 0 0|1 5 8|{kind = 'drop', at_ms = 6999}, {kind = 'drop', at_ms = 6000}|1 to 8: 1 5 6 start, 6 6 8 drop.
+drops on the apex and on both ends|0 0 0 10 40 60 40 10 0 0 0|1 5 8|{kind = 'drop', at_ms = 5000}, {kind = 'drop', at_ms = 1000}, {kind = 'drop', at_ms = 8000}|1 to 8: 1 5 8 start.
+a drop before the apex|0 0 10 60 20 30 20 0|1 3 7|{kind = 'drop', at_ms = 2000}|1 to 7: 1 2 2 start, 2 3 7 drop.
+a drop on the apex of a piece|0 0 10 60 20 30 20 0|1 3 7|{kind = 'drop', at_ms = 4000}, {kind = 'drop', at_ms = 5000}|1 to 7: 1 3 4 start, 4 5 7 drop.
+the same drops in the other order|0 0 10 60 20 30 20 0|1 3 7|{kind = 'drop', at_ms = 5000}, {kind = 'drop', at_ms = 4000}|1 to 7: 1 3 4 start, 4 5 5 drop, 5 5 7 drop.
+a forced piece|0 0 0 10 40 60 40 10 0 0 0|1 5 8|{kind = 'baseline', from_ms = 2000, to_ms = 7000}|forced 2 to 7: 2 5 7 start.
+a second piece that overlaps the first|0 0 0 10 40 60 40 10 0 0 0|1 5 8|{kind = 'baseline', from_ms = 2000, to_ms = 7000}, {kind = 'baseline', from_ms = 6000, to_ms = 9000}|forced 2 to 7: 2 5 7 start.
+a second piece that shares an end|0 0 0 10 40 60 40 10 0 0 0|1 5 8|{kind = 'baseline', from_ms = 2000, to_ms = 7000}, {kind = 'baseline', from_ms = 7000, to_ms = 9000}|forced 2 to 7: 2 5 7 start.
+a forced piece that starts on the apex|0 0 0 10 40 60 40 10 0 0 0|1 5 8|{kind = 'baseline', from_ms = 5000, to_ms = 7000}|
+a baseline of one sample|0 0 0 10 40 60 40 10 0 0 0|1 5 8|{kind = 'baseline', from_ms = 3000, to_ms = 3999}|1 to 8: 1 5 8 start.
+a start that is raised to the end of a second piece|0 0 0 10 40 60 40 20 40 60 40 10 0 0 0|1 5 6 7 9 12|{kind = 'baseline', from_ms = 2000, to_ms = 6000}, {kind = 'baseline', from_ms = 6000, to_ms = 8000}|forced 2 to 6: 2 5 6 start. 8 to 12: 8 9 12 start.
+a start that a second piece without effect leaves|0 0 0 10 40 60 40 20 40 60 40 10 0 0 0|1 5 6 7 9 12|{kind = 'baseline', from_ms = 2000, to_ms = 6000}, {kind = 'baseline', from_ms = 5000, to_ms = 8000}|forced 2 to 6: 2 5 6 start. 7 to 12: 7 9 12 start.
+a forced piece without a peak parts its neighbours|0 0 0 10 40 60 40 20 40 60 40 10 0 0 0|1 5 6 7 9 12|{kind = 'baseline', from_ms = 6000, to_ms = 7000}|1 to 6: 1 5 6 start. 7 to 12: 7 9 12 start.
+a forced piece up to the end of the trace, with a drop|0 0 0 10 40 60 40 20 40 60 40 10 0 0 0|1 5 6 7 9 12|{kind = 'drop', at_ms = 3000}, {kind = 'baseline', from_ms = 0, to_ms = 20000}|forced 0 to 14: 0 3 3 start, 3 5 7 drop, 7 9 14 valley.
+"#;
+
 const ONE: &[i32] = &[0, 0, 0, 10, 40, 60, 40, 10, 0, 0, 0];
 
-const ONE_RAW: &[RawPeak] = &[RawPeak {
-    start: 1,
-    apex: 5,
-    end: 8,
-}];
-
-const TWO: &[i32] = &[0, 0, 0, 10, 40, 60, 40, 20, 40, 60, 40, 10, 0, 0, 0];
-
-const DEEP: &[i32] = &[50, 50, 50, 60, 90, 110, 60, 20, 60, 110, 90, 60, 50, 50, 50];
-
-const HIGH: &[i32] = &[0, 0, 0, 10, 40, 60, 50, 40, 50, 60, 40, 10, 0, 0, 0];
-
-const TWO_RAW: &[RawPeak] = &[
-    RawPeak {
-        start: 1,
-        apex: 5,
-        end: 6,
-    },
-    RawPeak {
-        start: 7,
-        apex: 9,
-        end: 12,
-    },
-];
-
-// A peak with a bump on its falling side.
-const BUMP: &[i32] = &[0, 0, 10, 60, 20, 30, 20, 0];
-
-const BUMP_RAW: &[RawPeak] = &[RawPeak {
-    start: 1,
-    apex: 3,
-    end: 7,
-}];
-
-// Two peaks with a stretch of the baseline between them.
-const GAPS: &[i32] = &[0, 0, 10, 60, 10, 0, 0, 0, 10, 60, 10, 0];
-
-/// A part that is wanted: its start, its apex, its end and its left end.
-type WantedPart = (u32, u32, u32, Cut);
-
-/// A cluster that is wanted: its start, its end, whether it is forced, and its parts.
-type Wanted = (u32, u32, bool, &'static [WantedPart]);
-
-/// What a row shows; its samples, one a second; its raw peaks; its manual events; its clusters. Peaks are fused over at
-/// most two samples.
-type Row = (
-    &'static str,
-    &'static [i32],
-    &'static [RawPeak],
-    &'static [Event],
-    &'static [Wanted],
-);
-
-const ROWS: [Row; 24] = [
-    (
-        "one peak",
-        ONE,
-        ONE_RAW,
-        &[],
-        &[(1, 8, false, &[(1, 5, 8, Cut::Start)])],
-    ),
-    (
-        "two fused peaks",
-        TWO,
-        TWO_RAW,
-        &[],
-        &[(
-            1,
-            12,
-            false,
-            &[(1, 5, 7, Cut::Start), (7, 9, 12, Cut::Valley)],
-        )],
-    ),
-    (
-        "a valley under the line",
-        DEEP,
-        TWO_RAW,
-        &[],
-        &[(
-            1,
-            12,
-            false,
-            &[(1, 5, 7, Cut::Start), (7, 9, 12, Cut::Valley)],
-        )],
-    ),
-    (
-        "a valley above half height",
-        HIGH,
-        TWO_RAW,
-        &[],
-        &[(
-            1,
-            12,
-            false,
-            &[(1, 5, 7, Cut::Start), (7, 9, 12, Cut::Valley)],
-        )],
-    ),
-    ("no raw peak", &[7, 7], &[], &[], &[]),
-    (
-        "a peak behind a climb that was abandoned",
-        &[0, 0, 10, 10, 10, 10, 10, 10, 20, 40, 20, 10, 10, 10],
-        &[RawPeak {
-            start: 6,
-            apex: 9,
-            end: 11,
-        }],
-        &[],
-        &[(6, 11, false, &[(6, 9, 11, Cut::Start)])],
-    ),
-    (
-        "a peak that ends with the trace",
-        &[0, 0, 0, 20, 60, 100, 80, 60, 40],
-        &[RawPeak {
-            start: 1,
-            apex: 5,
-            end: 8,
-        }],
-        &[],
-        &[(1, 8, false, &[(1, 5, 8, Cut::Start)])],
-    ),
-    (
-        "two samples between peaks",
-        GAPS,
-        &[
-            RawPeak {
-                start: 1,
-                apex: 3,
-                end: 5,
-            },
-            RawPeak {
-                start: 7,
-                apex: 9,
-                end: 11,
-            },
-        ],
-        &[],
-        &[(
-            1,
-            11,
-            false,
-            &[(1, 3, 5, Cut::Start), (5, 9, 11, Cut::Valley)],
-        )],
-    ),
-    (
-        "three samples between peaks",
-        GAPS,
-        &[
-            RawPeak {
-                start: 1,
-                apex: 3,
-                end: 5,
-            },
-            RawPeak {
-                start: 8,
-                apex: 9,
-                end: 11,
-            },
-        ],
-        &[],
-        &[
-            (1, 5, false, &[(1, 3, 5, Cut::Start)]),
-            (8, 11, false, &[(8, 9, 11, Cut::Start)]),
-        ],
-    ),
-    (
-        "a drop behind the apex",
-        ONE,
-        ONE_RAW,
-        &[Event::Drop { at: 6000 }],
-        &[(1, 8, false, &[(1, 5, 6, Cut::Start), (6, 6, 8, Cut::Drop)])],
-    ),
-    (
-        "a drop between two samples, and the same again",
-        ONE,
-        ONE_RAW,
-        &[Event::Drop { at: 6999 }, Event::Drop { at: 6000 }],
-        &[(1, 8, false, &[(1, 5, 6, Cut::Start), (6, 6, 8, Cut::Drop)])],
-    ),
-    (
-        "drops on the apex and on both ends",
-        ONE,
-        ONE_RAW,
-        &[
-            Event::Drop { at: 5000 },
-            Event::Drop { at: 1000 },
-            Event::Drop { at: 8000 },
-        ],
-        &[(1, 8, false, &[(1, 5, 8, Cut::Start)])],
-    ),
-    (
-        "a drop before the apex",
-        BUMP,
-        BUMP_RAW,
-        &[Event::Drop { at: 2000 }],
-        &[(1, 7, false, &[(1, 2, 2, Cut::Start), (2, 3, 7, Cut::Drop)])],
-    ),
-    (
-        "a drop on the apex of a piece",
-        BUMP,
-        BUMP_RAW,
-        &[Event::Drop { at: 4000 }, Event::Drop { at: 5000 }],
-        &[(1, 7, false, &[(1, 3, 4, Cut::Start), (4, 5, 7, Cut::Drop)])],
-    ),
-    (
-        "the same drops in the other order",
-        BUMP,
-        BUMP_RAW,
-        &[Event::Drop { at: 5000 }, Event::Drop { at: 4000 }],
-        &[(
-            1,
-            7,
-            false,
-            &[
-                (1, 3, 4, Cut::Start),
-                (4, 5, 5, Cut::Drop),
-                (5, 5, 7, Cut::Drop),
-            ],
-        )],
-    ),
-    (
-        "a forced piece",
-        ONE,
-        ONE_RAW,
-        &[Event::Baseline {
-            from: 2000,
-            to: 7000,
-        }],
-        &[(2, 7, true, &[(2, 5, 7, Cut::Start)])],
-    ),
-    (
-        "a second piece that overlaps the first",
-        ONE,
-        ONE_RAW,
-        &[
-            Event::Baseline {
-                from: 2000,
-                to: 7000,
-            },
-            Event::Baseline {
-                from: 6000,
-                to: 9000,
-            },
-        ],
-        &[(2, 7, true, &[(2, 5, 7, Cut::Start)])],
-    ),
-    (
-        "a second piece that shares an end",
-        ONE,
-        ONE_RAW,
-        &[
-            Event::Baseline {
-                from: 2000,
-                to: 7000,
-            },
-            Event::Baseline {
-                from: 7000,
-                to: 9000,
-            },
-        ],
-        &[(2, 7, true, &[(2, 5, 7, Cut::Start)])],
-    ),
-    (
-        "a forced piece that starts on the apex",
-        ONE,
-        ONE_RAW,
-        &[Event::Baseline {
-            from: 5000,
-            to: 7000,
-        }],
-        &[],
-    ),
-    (
-        "a baseline of one sample",
-        ONE,
-        ONE_RAW,
-        &[Event::Baseline {
-            from: 3000,
-            to: 3999,
-        }],
-        &[(1, 8, false, &[(1, 5, 8, Cut::Start)])],
-    ),
-    (
-        "a start that is raised to the end of a second piece",
-        TWO,
-        TWO_RAW,
-        &[
-            Event::Baseline {
-                from: 2000,
-                to: 6000,
-            },
-            Event::Baseline {
-                from: 6000,
-                to: 8000,
-            },
-        ],
-        &[
-            (2, 6, true, &[(2, 5, 6, Cut::Start)]),
-            (8, 12, false, &[(8, 9, 12, Cut::Start)]),
-        ],
-    ),
-    (
-        "a start that a second piece without effect leaves",
-        TWO,
-        TWO_RAW,
-        &[
-            Event::Baseline {
-                from: 2000,
-                to: 6000,
-            },
-            Event::Baseline {
-                from: 5000,
-                to: 8000,
-            },
-        ],
-        &[
-            (2, 6, true, &[(2, 5, 6, Cut::Start)]),
-            (7, 12, false, &[(7, 9, 12, Cut::Start)]),
-        ],
-    ),
-    (
-        "a forced piece without a peak parts its neighbours",
-        TWO,
-        TWO_RAW,
-        &[Event::Baseline {
-            from: 6000,
-            to: 7000,
-        }],
-        &[
-            (1, 6, false, &[(1, 5, 6, Cut::Start)]),
-            (7, 12, false, &[(7, 9, 12, Cut::Start)]),
-        ],
-    ),
-    (
-        "a forced piece up to the end of the trace, with a drop",
-        TWO,
-        TWO_RAW,
-        &[
-            Event::Drop { at: 3000 },
-            Event::Baseline { from: 0, to: 20000 },
-        ],
-        &[(
-            0,
-            14,
-            true,
-            &[
-                (0, 3, 3, Cut::Start),
-                (3, 5, 7, Cut::Drop),
-                (7, 9, 14, Cut::Valley),
-            ],
-        )],
-    ),
-];
+// What a method states besides its events.
+const COMMON: &str = "bunch = 1
+slope_on = 5
+slope_off = 5
+plateau = 3
+fuse = 2
+min_area = 1
+min_height = 1
+weight = 'equal'
+";
 
 // Whether a raw peak begins at this sample or behind it, and its apex is the first greatest sample, strictly inside.
 fn stands<L: Ledger>(trace: &Trace, at: u32, peak: RawPeak, steps: &mut Steps<L>) -> bool
@@ -377,7 +63,7 @@ fn stands<L: Ledger>(trace: &Trace, at: u32, peak: RawPeak, steps: &mut Steps<L>
     {
         return false;
     }
-    segment_between(trace, peak.start, peak.end, steps).top == peak.apex
+    first_greatest(peak.start, peak.end, trace, steps).sample == peak.apex
 }
 
 // Whether raw peaks stand one after the other in a trace.
@@ -425,28 +111,83 @@ fn arranged(
     arranged_by::<Brand>(alloc, Blank::new(1), samples, raw, manual)
 }
 
-// Whether the parts are those that are wanted.
-fn are_wanted(parts: &[Part], wanted: &[WantedPart]) -> bool {
-    parts.len() == wanted.len()
-        && parts.iter().zip(wanted).all(|(part, want)| (part.start, part.apex, part.end, part.left)
-            == *want)
+// The whole numbers of a text.
+fn numbers(alloc: Global, text: &str) -> Result<Vec<i32>, Fail> {
+    let mut numbers = Vec::new(alloc);
+    for word in text.split_whitespace() {
+        numbers.push(word.parse::<i32>()?)?;
+    }
+    Ok(numbers)
+}
+
+// The raw peaks of a text, each as its start, its apex and its end.
+fn raw_peaks(alloc: Global, text: &str) -> Result<Vec<RawPeak>, Fail> {
+    let numbers = numbers(alloc, text)?;
+    let mut raw = Vec::new(alloc);
+    for peak in numbers.chunks(3) {
+        let [start, apex, end] = peak else {
+            return Err(Fail::from("a raw peak has three samples"));
+        };
+        raw.push(RawPeak {
+            start: u32::try_from(*start)?,
+            apex: u32::try_from(*apex)?,
+            end: u32::try_from(*end)?,
+        })?;
+    }
+    Ok(raw)
+}
+
+// A cluster as the rows write it.
+fn cluster_text(alloc: Global, cluster: &Cluster) -> Result<String, Fail> {
+    let forced = if cluster.forced { "forced " } else { "" };
+    let (start, end) = (cluster.start, cluster.end);
+    let mut text = format!(in alloc; "{forced}{start} to {end}:")?;
+    let mut behind = "";
+    for part in cluster.parts.as_slice() {
+        let (start, apex, end) = (part.start, part.apex, part.end);
+        let left = match part.left {
+            Cut::Start => "start",
+            Cut::Valley => "valley",
+            Cut::Drop => "drop",
+        };
+        write!(text, "{behind} {start} {apex} {end} {left}")?;
+        behind = ",";
+    }
+    text.push_str(".")?;
+    Ok(text)
+}
+
+// The clusters as the rows write them.
+fn clusters_text(alloc: Global, clusters: &[Cluster]) -> Result<String, Fail> {
+    let mut text = String::new(alloc);
+    for cluster in clusters {
+        if !text.is_empty() {
+            text.push_str(" ")?;
+        }
+        text.push_str(cluster_text(alloc, cluster)?.as_str())?;
+    }
+    Ok(text)
+}
+
+// Whether the clusters of a line are those that it states.
+fn is_as_stated(alloc: Global, line: &str) -> Result<bool, Fail> {
+    let (_shows, rest) = line.split_once('|').ok_or("a line says what it shows")?;
+    let (samples, rest) = rest.split_once('|').ok_or("a line has samples")?;
+    let (raw, rest) = rest.split_once('|').ok_or("a line has raw peaks")?;
+    let (events, wanted) = rest.split_once('|').ok_or("a line has events")?;
+    let samples = numbers(alloc, samples)?;
+    let raw = raw_peaks(alloc, raw)?;
+    let method = format!(in alloc; "{COMMON}event = [{events}]\n")?;
+    let method = Method::read_toml(alloc, method.as_bytes())?;
+    let got = arranged(alloc, &samples, &raw, method.events.as_slice())?;
+    let got = got.ok_or("the raw peaks don't stand in the trace")?;
+    Ok(clusters_text(alloc, got.as_slice())?.as_str() == wanted)
 }
 
 #[test]
 fn clusters_are_those_worked_out_by_hand(rt: HostRuntime) -> Result<(), Fail> {
-    for (shows, samples, raw, manual, wanted) in ROWS {
-        let got = arranged(rt.alloc(), samples, raw, manual)?;
-        let got = got.ok_or("the raw peaks don't stand in the trace")?;
-        assert_eq!(rt; got.len(), wanted.len(), "{shows}");
-        for (cluster, want) in got.as_slice().iter().zip(wanted) {
-            let (start, end, forced, parts) = *want;
-            assert_eq!(rt;
-                (cluster.start, cluster.end, cluster.forced),
-                (start, end, forced),
-                "{shows}"
-            );
-            assert!(rt; are_wanted(cluster.parts.as_slice(), parts), "{shows}");
-        }
+    for line in ROWS.lines() {
+        assert!(rt; is_as_stated(rt.alloc(), line)?, "at {}", line);
     }
     Ok(())
 }

@@ -1,10 +1,9 @@
 -- How far the judging of a list has come.
-use Rattle.std.proofs.Common.{◌≡◌, ℕ, ◌+◌, ◌<◌, ◌≤◌, List, [], ◌∷◌, ◌++◌, length, drop, get_or, Result, Ok, Err, refl, ap, sym, ◌∙◌, arith}
+use Rattle.std.proofs.Common.{◌≡◌, ℕ, ◌+◌, ◌<◌, ◌≤◌, List, [], ◌∷◌, ◌++◌, length, drop, Result, Ok, Err, refl, ap, sym, ◌∙◌}
 use Rattle.std.proofs.lemmas.List.{drop_all, drop_more, length_push}
 use Rattle.cds_base.specs.Answers.{◌>>=◌}
-use Rattle.cds_fields.specs.Datum.{Datum, other}
-use Rattle.cds_fields.specs.Refusals.{Refusals}
-use Rattle.cds_fields.specs.Section.{Entries, Entry, entry_at, entry_path, each, each_value}
+use Rattle.cds_fields.specs.Datum.{other}
+use Rattle.cds_fields.specs.Section.{Entries, Entry, entry_at, each, each_value}
 
 -- what is done and the values that are left state what all values state
 pub record Judged {X E : Type 0} (judge : List X → Entry E → Result X E) (es : Entries E) (place : ℕ) (done : List X) : Type 0 where

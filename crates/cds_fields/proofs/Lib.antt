@@ -4,3 +4,4 @@ pub mod Lookup
 pub mod Unknown
 pub mod Judging
 pub mod Utf8
+pub mod NamedLaws

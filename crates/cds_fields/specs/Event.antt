@@ -1,35 +1,12 @@
 -- The timed events that a text states. The kinds, the fields and the ranges are this project's own.
-use Rattle.std.specs.Prelude.{◌≡◌, ℕ, ◌+◌, ◌≤◌, ◌&&◌, nat_le, nat_lt, Bool, List, [], ◌∷◌, length, Result, Ok, codes}
-use Rattle.std.specs.List.{AllPass}
+use Rattle.std.specs.Prelude.{ℕ, ◌+◌, List, [], ◌∷◌, Result, Ok, codes}
 use Rattle.cds_base.specs.Answers.{◌>>=◌}
 use Rattle.cds_base.specs.declared.event.Event.{Event}
 use Rattle.cds_base.specs.declared.event.Event.TheVariants.{Inhibit, Valley, Drop, Baseline, Slope, Skim}
 use Rattle.cds_base.specs.declared.time.TheConstants.{LAST_TIME_MS}
-use Rattle.cds_fields.specs.declared.limits.TheConstants.{MOST_SLOPE, MOST_EVENTS}
+use Rattle.cds_base.specs.declared.event.TheConstants.{MOST_SLOPE}
 use Rattle.cds_fields.specs.Section.{Section, Entry, Entries, required, only, entry_section, each}
 use Rattle.cds_fields.specs.Values.{number_in, one_of}
-
--- a window of at least one millisecond that ends at the last time at the latest
-abbrev pub is_window : ℕ → ℕ → Bool
-is_window from to = nat_lt from to && nat_le to LAST_TIME_MS
-
--- a slope threshold, in counts per second
-abbrev pub is_slope : ℕ → Bool
-is_slope slope = nat_le 1 slope && nat_le slope MOST_SLOPE
-
--- an event whose times and thresholds are in their ranges
-abbrev pub is_event : Event → Bool
-is_event (Inhibit from to) = is_window from to
-is_event (Valley from to) = is_window from to
-is_event (Drop at) = nat_le at LAST_TIME_MS
-is_event (Baseline from to) = is_window from to
-is_event (Slope at on off) = nat_le at LAST_TIME_MS && is_slope on && is_slope off
-is_event (Skim from to) = is_window from to
-
--- at most 64 events, each in its ranges
-pub record EventRanges (events : List Event) : Type 0 where
-  pub count : length events ≤ MOST_EVENTS
-  pub each : AllPass is_event events
 
 -- an event with a window, which begins before it ends
 unfoldable pub window_of : {E : Type 0} → (ℕ → ℕ → Event) → Section E → Result Event E

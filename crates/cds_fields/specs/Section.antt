@@ -81,7 +81,8 @@ least_name (name ∷ names) = Some (lesser name (least_name names))
 -- no field but the known ones: the least of the others in byte order is unknown
 unfoldable pub only : {E : Type 0} → List (List ℕ) → Section E → Result (Unit {0}) E
 only known s =
-    unless (option_map (λ name. s.told.unknown (path_of name s)) (least_name (unknown_names known (map (λ f. f.0) s.fields))))
+    unless (option_map (λ name. s.told.unknown (path_of name s))
+    (least_name (unknown_names known (map (λ f. f.0) s.fields))))
 
 -- a list of this path, which has at least and at most so many values
 abbrev pub counted : {E : Type 0} → ℕ → ℕ → List ℕ → Refusals E → List Datum → Result (Entries E) E
@@ -117,10 +118,15 @@ entry_section e = do
 
 -- the entry at a place of a list, counted from 0
 abbrev pub entry_at : {E : Type 0} → ℕ → Entries E → Entry E
-entry_at place es = record { path = entry_path es.path (place + 1); value = get_or es.values place other; told = es.told }
+entry_at place es = record {
+  path = entry_path es.path (place + 1);
+  value = get_or es.values place other;
+  told = es.told;
+}
 
 -- the values of a list that are left after those that state `done`, each judged with what those before it state
-unfoldable pub each_value : {X E : Type 0} → (List X → Entry E → Result X E) → List ℕ → Refusals E → List X → List Datum → Result (List X) E
+unfoldable pub each_value : {X E : Type 0} → (List X → Entry E → Result X E) → List ℕ → Refusals E → List X → List Datum
+    → Result (List X) E
 each_value judge path told done [] = Ok done
 each_value judge path told done (d ∷ ds) = do
   x ← judge done (record { path = entry_path path (length done + 1); value = d; told = told })
@@ -131,7 +137,8 @@ abbrev pub each : {X E : Type 0} → (List X → Entry E → Result X E) → Ent
 each judge es = each_value judge es.path es.told [] es.values
 
 -- the fields of an object that are left after `done`, whose names are Names, in byte order of these, each with what its value states
-unfoldable pub each_named : {X E : Type 0} → (Datum → Option X) → List ℕ → Refusals E → List (List ℕ × X) → List (List ℕ × Datum) → Result (List (List ℕ × X)) E
+unfoldable pub each_named : {X E : Type 0} → (Datum → Option X) → List ℕ → Refusals E → List (List ℕ × X)
+    → List (List ℕ × Datum) → Result (List (List ℕ × X)) E
 each_named reads front told done [] = Ok done
 each_named reads front told done (f ∷ fs) = do
   name ← ok_or (name_of f.0) (told.range (front ++ f.0))

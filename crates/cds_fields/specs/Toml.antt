@@ -27,4 +27,5 @@ abbrev mutual
 
 -- the fields of a text, which is TOML in UTF-8
 unfoldable pub toml_fields : List ℕ → Option (List (List ℕ × Datum))
-toml_fields text = if is_utf8 text then option_map (λ ms. fields_of (members_of_toml ms)) (parse_document text) else None
+toml_fields text =
+    if is_utf8 text then option_map (λ ms. fields_of (members_of_toml ms)) (parse_document text) else None

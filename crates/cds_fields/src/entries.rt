@@ -1,5 +1,6 @@
 //! A list of a text, and its entries one by one.
 ghost use Rattle.std.specs.Prelude.{◌≡◌, ◌<◌, ◌≤◌, IfOk, IfErr, map, length, string_bytes};
+ghost use Rattle.cds_base.specs.NameText.{IsName};
 
 use crate::refusal::Refusal;
 use crate::section::Section;
@@ -97,7 +98,8 @@ impl<'a, V: TextValue, E: Refusal> Entry<'a, V, E> {
 
     /// The name that the entry states.
     pub fn name(&self) -> Result<Name, E>
-        ensures { Judges E.told (λ x. x) (stated_by name_in (entry_seen V.shown E.told self.now)) result }
+        ensures value { Judges E.told (λ x. x) (stated_by name_in (entry_seen V.shown E.told self.now)) result }
+        ensures name { IfOk result IsName }
     {
         match name_in(self.value) {
             Some(name) => Ok(name),

@@ -1,18 +1,18 @@
 //! Reading the timed events of a text.
-ghost use Rattle.std.specs.Prelude.{◌≡◌, ◌<◌, ◌≤◌, true, IfOk, length, codes, ℕ};
+ghost use Rattle.std.specs.Prelude.{◌≡◌, ◌<◌, ◌≤◌, true, IfOk, length, ℕ};
 ghost use Rattle.std.specs.List.{AllPass};
 ghost use Rattle.cds_base.specs.declared.event.Event.{Event};
 ghost use Rattle.cds_base.specs.declared.time.TheConstants.{LAST_TIME_MS};
-ghost use Rattle.cds_fields.specs.Event.{is_event, events_of, event_of, window_of, drop_of, slope_of};
+ghost use Rattle.cds_base.specs.EventRange.{is_event};
+ghost use Rattle.cds_fields.specs.Event.{events_of, event_of, window_of, drop_of, slope_of};
 ghost use Rattle.cds_fields.specs.Refusals.{Judges};
 ghost use Rattle.cds_fields.specs.Seen.{seen, list_seen, entry_seen};
 
 use crate::entries::{Entries, Entry};
-use crate::limits::MOST_SLOPE;
 use crate::refusal::Refusal;
 use crate::section::Section;
 use crate::value::TextValue;
-use cds_base::{Event, EventList, LAST_TIME_MS};
+use cds_base::{Event, EventList, LAST_TIME_MS, MOST_SLOPE};
 
 /// The timed events of a list, one for each of its entries, each in its ranges.
 #[tactic(auto, using(crate::proofs::Judging::judging))]

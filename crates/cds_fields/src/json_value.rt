@@ -1,5 +1,4 @@
 //! The values of JSON.
-ghost use Rattle.std.specs.Prelude.{◌≡◌};
 ghost use Rattle.serde_json.specs.View.{view};
 ghost use Rattle.cds_fields.specs.Json.{of_json};
 

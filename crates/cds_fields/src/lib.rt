@@ -8,8 +8,6 @@
 mod entries;
 mod event;
 mod json_value;
-mod laws;
-mod limits;
 mod named;
 mod refusal;
 mod section;
@@ -19,13 +17,11 @@ mod value;
 
 pub use entries::{Entries, Entry};
 pub use event::events;
-pub use laws::the_limits;
-pub use limits::{MOST_EVENTS, MOST_SLOPE};
 pub use named::named_numbers;
 pub use refusal::Refusal;
 pub use section::Section;
 pub use text::{read_json, read_toml};
-pub use value::{TextValue, name_in, number_in, signed_in};
+pub use value::TextValue;
 
 #[cfg(test)]
 mod tests;

@@ -1,5 +1,7 @@
 //! An object whose fields are names, each with a number.
-ghost use Rattle.std.specs.Prelude.{◌≡◌, ◌≤◌, IfOk, [], length};
+ghost use Rattle.std.specs.Prelude.{◌≡◌, ◌≤◌, IfOk, [], All, length, map};
+ghost use Rattle.cds_base.specs.NameText.{IsName};
+ghost use Rattle.cds_base.specs.Named.{AreRising};
 ghost use Rattle.cds_fields.specs.Refusals.{Judges};
 ghost use Rattle.cds_fields.specs.Section.{each_named, named};
 ghost use Rattle.cds_fields.specs.Seen.{seen};
@@ -23,6 +25,8 @@ pub fn named_numbers<V: TextValue, E: Refusal>(
     ensures value { Judges E.told (λ v. v.items)
         (named (signed_in least most) count name.now (seen V.shown E.told section.now)) result }
     ensures count { IfOk result (λ v. length v.items ≤ count) }
+    ensures names { IfOk result (λ v. All IsName (map (λ n. n.0) v.items)) }
+    ensures rising { IfOk result (λ v. AreRising (map (λ n. n.0) v.items)) }
 {
     let object = section.section(name)?;
     if count < object.fields.len() {
@@ -42,6 +46,8 @@ fn each_number<V: TextValue, E: Refusal>(
         (each_named (signed_in least most) (seen V.shown E.told section.now).front E.told []
         (seen V.shown E.told section.now).fields) result }
     ensures count { IfOk result (λ v. length v.items ≡ length section.now.fields.now.entries) }
+    ensures names { IfOk result (λ v. All IsName (map (λ n. n.0) v.items)) }
+    ensures rising { IfOk result (λ v. AreRising (map (λ n. n.0) v.items)) }
 {
     let mut numbers = Vec::new(section.alloc);
     for (key, value) in section.fields.iter() {

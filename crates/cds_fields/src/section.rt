@@ -4,6 +4,7 @@ ghost use Rattle.std.specs.Prelude.{option_map, option_copied, string_bytes, str
 ghost use Rattle.std.specs.BTreeMap.{keys, IsOrdered};
 ghost use Rattle.std.specs.List.{list_any};
 ghost use Rattle.std.specs.Str.{bytes_eq};
+ghost use Rattle.cds_base.specs.NameText.{IsName};
 
 use crate::entries::Entries;
 use crate::refusal::Refusal;
@@ -112,7 +113,8 @@ impl<'a, V: TextValue, E: Refusal> Section<'a, V, E> {
     /// The name that a field states.
     #[tactic(auto, unfolding(crate::specs::Section::required))]
     pub fn name(&self, name: &str) -> Result<Name, E>
-        ensures { Judges E.told (λ x. x) (required name_in name.now (seen V.shown E.told self.now)) result }
+        ensures value { Judges E.told (λ x. x) (required name_in name.now (seen V.shown E.told self.now)) result }
+        ensures name { IfOk result IsName }
     {
         let value = self.needed(name)?;
         self.in_range(name, name_in(value))

@@ -1,5 +1,5 @@
 use super::*;
-use cds_base::Text;
+use cds_base::{MOST_EVENTS, Text};
 use std::alloc::Global;
 use std::test::Fail;
 

@@ -1,5 +1,4 @@
 //! The values of TOML.
-ghost use Rattle.std.specs.Prelude.{◌≡◌};
 ghost use Rattle.toml.specs.View.{view};
 ghost use Rattle.cds_fields.specs.Toml.{of_toml};
 

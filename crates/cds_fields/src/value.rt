@@ -1,5 +1,6 @@
 //! The values of a text, and what they state.
 ghost use Rattle.std.specs.Prelude.{◌≡◌, ◌≤◌, ◌≤ℤ◌, IfSome, option_copied, option_map, map};
+ghost use Rattle.cds_base.specs.NameText.{IsName};
 ghost use Rattle.cds_fields.specs.Datum.{Datum, whole_in, word_in, flag_in, list_in, object_in};
 ghost use Rattle.cds_fields.specs.Seen.{fields_seen};
 ghost use Rattle.cds_fields.specs.Values.{number_in, signed_in, name_in};
@@ -33,7 +34,7 @@ pub trait TextValue: Sized {
 }
 
 /// The whole number from `least` to `most` that a value is.
-pub fn number_in<V: TextValue>(value: &V, least: u64, most: u64) -> Option<u64>
+pub(crate) fn number_in<V: TextValue>(value: &V, least: u64, most: u64) -> Option<u64>
     ensures value { result ≡ number_in least most (V.shown value.now) }
     ensures least { IfSome result (λ n. least ≤ n) }
     ensures most { IfSome result (λ n. n ≤ most) }
@@ -43,7 +44,7 @@ pub fn number_in<V: TextValue>(value: &V, least: u64, most: u64) -> Option<u64>
 }
 
 /// The whole number from `least` to `most` that a value is, which may be below zero.
-pub fn signed_in<V: TextValue>(value: &V, least: i64, most: i64) -> Option<i64>
+pub(crate) fn signed_in<V: TextValue>(value: &V, least: i64, most: i64) -> Option<i64>
     ensures value { result ≡ signed_in least most (V.shown value.now) }
     ensures least { IfSome result (λ n. least ≤ℤ n) }
     ensures most { IfSome result (λ n. n ≤ℤ most) }
@@ -56,8 +57,9 @@ pub fn signed_in<V: TextValue>(value: &V, least: i64, most: i64) -> Option<i64>
 }
 
 /// The name that a value is.
-pub fn name_in<V: TextValue>(value: &V) -> Option<Name>
-    ensures { result ≡ name_in (V.shown value.now) }
+pub(crate) fn name_in<V: TextValue>(value: &V) -> Option<Name>
+    ensures value { result ≡ name_in (V.shown value.now) }
+    ensures name { IfSome result IsName }
 {
     Name::new(value.as_word()?.as_bytes())
 }

@@ -49,7 +49,8 @@ left_crossing signal line level start apex =
 -- the right crossing: the sample before the first one behind the apex, up to the end, that is down to the level, and that one
 abbrev pub right_crossing : Signal → Line → ℤ → ℕ → ℕ → Option ℕ
 right_crossing signal line level apex end =
-    option_map (λ i. meets_at signal line level (i - 1)) (first_passing (is_down_to signal line level) (apex + 1) (end - apex))
+    option_map (λ i. meets_at signal line level (i - 1))
+    (first_passing (is_down_to signal line level) (apex + 1) (end - apex))
 
 -- both, where there are both
 abbrev pub both : Option ℕ → Option ℕ → Option (ℕ × ℕ)

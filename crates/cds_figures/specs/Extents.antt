@@ -6,4 +6,5 @@ use Rattle.cds_figures.specs.declared.blank.Extent.{Extent}
 -- the least and the greatest of these samples, if there is one
 abbrev pub extent_of : List ℤ → Option Extent
 extent_of [] = None
-extent_of (sample ∷ samples) = Some (record { least = fold int_min sample samples; greatest = fold int_max sample samples })
+extent_of (sample ∷ samples) =
+    Some (record { least = fold int_min sample samples; greatest = fold int_max sample samples })

@@ -4,14 +4,15 @@ use Rattle.std.specs.Prelude.{ℕ, ◌+◌, ◌-◌, ◌*◌, pos, ◌-ℤ◌, �
 use Rattle.std.specs.Int.{abs_diff}
 use Rattle.cds_base.specs.declared.peak.Ratio.{Ratio}
 use Rattle.cds_frac.specs.Fraction.{Fraction, lowest_terms}
+use Rattle.cds_figures.specs.declared.formulas.TheConstants.{HUNDREDTHS, RESOLUTION_HUNDREDTHS, PLATES_HUNDREDTHS}
 
 -- 1.18 |t2 - t1| / (w1 + w2), with the times of two peaks and their widths at half height
 abbrev pub resolution_of : ℕ → ℕ → ℕ → ℕ → Fraction
-resolution_of t1 w1 t2 w2 = lowest_terms (pos (118 * abs_diff t1 t2)) (100 * (w1 + w2))
+resolution_of t1 w1 t2 w2 = lowest_terms (pos (RESOLUTION_HUNDREDTHS * abs_diff t1 t2)) (HUNDREDTHS * (w1 + w2))
 
 -- 5.54 t^2 / w^2, with the time of a peak and its width at half height
 abbrev pub plates_of : ℕ → ℕ → Fraction
-plates_of t w = lowest_terms (pos (554 * (t * t))) (100 * (w * w))
+plates_of t w = lowest_terms (pos (PLATES_HUNDREDTHS * (t * t))) (HUNDREDTHS * (w * w))
 
 -- w / (2 d): the width at one twentieth of the height over twice the part of it before the apex sample, whatever the time
 -- of the peak is

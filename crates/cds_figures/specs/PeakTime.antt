@@ -13,7 +13,8 @@ bend_at signal i = pos 2 *ℤ sample_at signal i -ℤ (sample_at signal (i - 1) 
 -- down towards minus infinity: the period, times the rise from the one neighbour to the other, over twice the bend
 abbrev pub vertex_offset : Signal → ℕ → ℤ
 vertex_offset signal i =
-    int_div_euclid (pos signal.period *ℤ (sample_at signal (i + 1) -ℤ sample_at signal (i - 1))) (pos 2 *ℤ bend_at signal i)
+    int_div_euclid (pos signal.period *ℤ (sample_at signal (i + 1) -ℤ sample_at signal (i - 1)))
+    (pos 2 *ℤ bend_at signal i)
 
 -- the vertex counts under rules 2, and where the apex lies strictly inside the range of the peak
 abbrev pub is_at_vertex : ℕ → ℕ → ℕ → ℕ → Bool

@@ -53,7 +53,7 @@ fn extent_in<L: Ledger>(
 
 /// The noise of a blank: the greatest minus the least of its samples in the window from `from_ms` up to and without
 /// `to_ms`, in milliseconds from the start of the trace, as a number of counts. None exactly where fewer than two samples
-/// lie in the window, or all that do are alike. This project's own rule. It takes no memory. At most two steps for each
+/// lie in the window, or all that do are alike. This project's own rule. It takes no memory. At most one step for each
 /// sample of the trace.
 pub fn noise<L: Ledger>(
     trace: &Trace,
@@ -64,7 +64,7 @@ pub fn noise<L: Ledger>(
     ensures value { result ≡ noise_of trace.now from_ms to_ms }
     ensures positive { IfSome result (λ noise. 0 < noise) }
     ensures least { steps.old ≤ steps.new }
-    ensures counted { steps.new ≤ steps.old + 2 * length trace.now.samples }
+    ensures counted { steps.new ≤ steps.old + length trace.now.samples }
 {
     let Some(extent) = extent_in(trace, from_ms, to_ms, steps) else {
         return None;

@@ -1,9 +1,18 @@
 //! The figures of peaks.
-ghost use Rattle.std.specs.Prelude.{◌≡◌, ◌+◌, ◌-◌, ◌*◌, ◌^◌, ◌<◌, ◌≤◌, pos, ◌*ℤ◌, ◌<ℤ◌, unsigned_abs};
+ghost use Rattle.std.specs.Prelude.{◌≡◌, ◌+◌, ◌-◌, ◌*◌, ◌<◌, ◌≤◌, pos, ◌*ℤ◌, ◌<ℤ◌, unsigned_abs};
 ghost use Rattle.cds_figures.specs.Figures.{resolution_of, plates_of, tailing_of, signal_noise_of, retention_of, peak_valley_of};
 
 use cds_base::{HEIGHT_LIMIT, LAST_TIME_US, Ratio};
 use cds_frac::Frac;
+
+/// How many hundredths a whole has: the factors of resolution and of plates are in hundredths.
+pub(crate) const HUNDREDTHS: u64 = 100;
+
+/// The factor of resolution, 1.18, in hundredths.
+pub(crate) const RESOLUTION_HUNDREDTHS: u64 = 118;
+
+/// The factor of plates, 5.54, in hundredths.
+pub(crate) const PLATES_HUNDREDTHS: u64 = 554;
 
 /// The resolution of two peaks, 1.18 |t2 - t1| / (w1 + w2), with their times and their widths at half height in
 /// microseconds. Each is at most `LAST_TIME_US`, and one width is positive. After USP General Chapter 621, half-height
@@ -16,7 +25,11 @@ pub fn resolution(t1: u64, w1: u64, t2: u64, w2: u64) -> Frac
     requires positive { 0 < w1 + w2 }
     ensures { result ≡ resolution_of t1 w1 t2 w2 }
 {
-    Frac::new(118 * i128::from(t1.abs_diff(t2)), 100 * i128::from(w1 + w2))
+    let distance = i128::from(t1.abs_diff(t2));
+    Frac::new(
+        i128::from(RESOLUTION_HUNDREDTHS) * distance,
+        i128::from(HUNDREDTHS) * i128::from(w1 + w2),
+    )
 }
 
 /// The number of theoretical plates, 5.54 t^2 / w^2, with the peak's time and the width at half height in microseconds,
@@ -29,7 +42,10 @@ pub fn plates(t: u64, w: u64) -> Frac
     ensures { result ≡ plates_of t w }
 {
     let (t, w) = (i128::from(t), i128::from(w));
-    Frac::new(554 * (t * t), 100 * (w * w))
+    Frac::new(
+        i128::from(PLATES_HUNDREDTHS) * (t * t),
+        i128::from(HUNDREDTHS) * (w * w),
+    )
 }
 
 /// The tailing of a peak, w / (2 d): its width at one twentieth of its height, which reaches from `left` to `right`, over

@@ -1,3 +1,4 @@
+pub mod SignLaws
 pub mod Coprime
 pub mod LowestTerms
 pub mod Ratios

@@ -11,7 +11,8 @@ use Rattle.std.proofs.lemmas.Int.{unsigned_abs-mul}
 use Rattle.cds_frac.specs.Divisors.{AreCoprime, least_from}
 use Rattle.cds_frac.specs.Fraction.{Fraction, IsReduced, IsInRange, IsFrac, IsProduct, with_sign, least_den, lowest_terms}
 use Rattle.cds_frac.specs.FractionOrder.{ratio_cmp, number_cmp, fraction_cmp, fraction_eq}
-use Rattle.cds_frac.specs.FractionLaws.{abs-with_sign, with_sign-abs, with_sign-mul, with_sign-cross, times_right_comm, times_cancel, times-times, fraction_eq-is}
+use Rattle.cds_frac.specs.FractionLaws.{with_sign-abs, with_sign-mul, times_right_comm, times-times, fraction_eq-is}
+use Rattle.cds_frac.proofs.SignLaws.{abs-with_sign, with_sign-cross, times_cancel}
 use Rattle.cds_frac.proofs.Coprime.{dvd_other_factor, coprime_swap, coprime_quotients, coprime_divisors, coprime_products, factor_divides, exists_gcd}
 
 -- the least number that passes is the one that passes after none did

@@ -21,4 +21,5 @@ fraction_text size den (suc k) = 46 ∷ decimals size den (suc k)
 -- the number with k decimals, cut towards 0: `-` where it is below 0, its whole part, and for k > 0 a point and k decimals
 abbrev pub decimal_text : Fraction → ℕ → List ℕ
 decimal_text f k =
-    sign_text (is_negative f.num) ++ (decimal (unsigned_abs f.num / f.den) ++ fraction_text (unsigned_abs f.num) f.den k)
+    sign_text (is_negative f.num)
+    ++ (decimal (unsigned_abs f.num / f.den) ++ fraction_text (unsigned_abs f.num) f.den k)

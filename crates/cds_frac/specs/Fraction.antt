@@ -1,5 +1,5 @@
 -- A fraction, and a number in lowest terms.
-use Rattle.std.specs.Prelude.{◌≡◌, ℕ, ◌-◌, ◌*◌, ◌/◌, ◌%◌, ◌^◌, ◌<◌, ℤ, pos, negsuc, neg_ℤ, ◌*ℤ◌, ◌==◌, unsigned_abs}
+use Rattle.std.specs.Prelude.{◌≡◌, ℕ, ◌-◌, ◌*◌, ◌/◌, ◌%◌, ◌<◌, ℤ, pos, negsuc, neg_ℤ, ◌*ℤ◌, ◌==◌, unsigned_abs}
 use Rattle.std.specs.Int.{int_div_euclid}
 use Rattle.cds_frac.specs.Divisors.{least_from, AreCoprime}
 use Rattle.cds_frac.specs.declared.fraction.TheConstants.{PART_LIMIT}

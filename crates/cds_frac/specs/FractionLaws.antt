@@ -1,19 +1,14 @@
--- Laws of signs, and of the order of fractions by cross products.
+-- Laws of the order of fractions by cross products, with what they rest on. They stand here and not among the proofs,
+-- since the order is declared with its laws.
 use Rattle.std.proofs.Common.{◌≡◌, ℕ, zero, suc, ◌-◌, ◌*◌, ◌<◌, Bool, true, false, ℤ, pos, negsuc, neg_ℤ, ◌*ℤ◌, ◌<ℤ◌, unsigned_abs, int_cmp, nat_cmp, nat_eq, ◌&&◌, is_eq, max, Ordering, Less, Equal, Greater, refl, sym, ap, ap₂, ◌∙◌, arith, mul_comm, mul_assoc, zero-mul, mul-pos, mul-lt-mul_of_pos_right}
 use Rattle.std.specs.Ordering.{as_partial_cmp, ordering_then, int_eq}
 use Rattle.std.specs.Cmp.{int_cmp_is, IsTotalOrder, IsEquivalence, IsPartialOrder, partial_order_from_agreeing_total}
-use Rattle.std.proofs.Math.Nat.{eq_of_mul-eq-mul_right}
 use Rattle.std.proofs.lemmas.Bool.{eqb-true}
 use Rattle.std.proofs.lemmas.Bool.Decides.{nat_tests}
-use Rattle.std.proofs.lemmas.Int.{ints, unsigned_abs-mul}
+use Rattle.std.proofs.lemmas.Int.{ints}
 use Rattle.std.proofs.lemmas.Cmp.{int_ranked, by_ranked, int_cmp_total, nat_cmp_total, then_total, on_total, on_equiv, and_equiv, int_eq_equiv, nat_eq_equiv}
 use Rattle.cds_frac.specs.Fraction.{Fraction, with_sign}
 use Rattle.cds_frac.specs.FractionOrder.{ratio_cmp, number_cmp, fraction_cmp, fraction_eq}
-
-pub abs-with_sign : (z : ℤ) (n : ℕ) → unsigned_abs (with_sign z n) ≡ n
-abs-with_sign (pos m) n = refl
-abs-with_sign (negsuc m) zero = refl
-abs-with_sign (negsuc m) (suc n) = refl
 
 pub with_sign-abs : (z : ℤ) → with_sign z (unsigned_abs z) ≡ z
 with_sign-abs (pos m) = refl
@@ -23,18 +18,6 @@ pub with_sign-mul : (z : ℤ) (n k : ℕ) → with_sign z n *ℤ pos k ≡ with_
 with_sign-mul (pos m) n k = refl
 with_sign-mul (negsuc m) zero k = rw (zero-mul k) refl
 with_sign-mul (negsuc m) (suc n) k = refl
-
--- a number above 0, taken off, is no number from 0 on
-neg-ne-pos : (n m : ℕ) → 0 < n → neg_ℤ (pos n) ≡ pos m → ⊥
-neg-ne-pos zero m some e = omega arith
-neg-ne-pos (suc n) m some e = cc
-
--- equal numbers have one sign
-pub with_sign-cross : (x z : ℤ) (b q : ℕ) → 0 < b → 0 < q → x *ℤ pos b ≡ z *ℤ pos q → with_sign z (unsigned_abs x) ≡ x
-with_sign-cross (pos n) (pos m) b q some more e = refl
-with_sign-cross (pos n) (negsuc m) b q some more e = absurd (neg-ne-pos (suc m * q) (n * b) (mul-pos (omega arith) more) (sym e))
-with_sign-cross (negsuc n) (pos m) b q some more e = absurd (neg-ne-pos (suc n * b) (m * q) (mul-pos (omega arith) some) e)
-with_sign-cross (negsuc n) (negsuc m) b q some more e = refl
 
 -- a number times two factors is the number times their product
 pub times-times : (z : ℤ) (a b : ℕ) → (z *ℤ pos a) *ℤ pos b ≡ z *ℤ pos (a * b)
@@ -46,12 +29,6 @@ times-times z a b =
 -- the factors of a number may change places
 pub times_right_comm : (z : ℤ) (a b : ℕ) → (z *ℤ pos a) *ℤ pos b ≡ (z *ℤ pos b) *ℤ pos a
 times_right_comm z a b = times-times z a b ∙ ap (λ k. z *ℤ pos k) (mul_comm a b) ∙ sym (times-times z b a)
-
--- a factor above 0 on both sides may be left out
-pub times_cancel : (x y : ℤ) (k : ℕ) → 0 < k → x *ℤ pos k ≡ y *ℤ pos k → x ≡ y
-times_cancel x y k some same =
-    let sizes : unsigned_abs x * k ≡ unsigned_abs y * k = sym (unsigned_abs-mul x (pos k)) ∙ ap unsigned_abs same ∙ unsigned_abs-mul y (pos k) in
-    sym (with_sign-cross x y k k some some same) ∙ ap (with_sign y) (eq_of_mul-eq-mul_right k some (unsigned_abs x) (unsigned_abs y) sizes) ∙ with_sign-abs y
 
 -- a number below 0 times a factor above 0
 negsuc-times : (a k : ℕ) → 0 < k → negsuc a *ℤ pos k ≡ negsuc (suc a * k - 1)

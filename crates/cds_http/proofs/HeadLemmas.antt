@@ -141,10 +141,6 @@ clean_request h is =
     All-append (λ b. b ≢ 10) h.method (32 ∷ (h.target ++ 32 ∷ print_version h.minor)) (All-weaker (λ b. IsTrue (is_token_byte b)) (λ b. b ≢ 10) clean_token h.method is.method.1)
     (All-cons (λ b. b ≢ 10) 32 (h.target ++ 32 ∷ print_version h.minor) (above_feed 32 (omega arith)) target)
 
--- what follows the empty lines
-abbrev after_blank : RequestHead → List ℕ
-after_blank h = request_line h ++ (print_end h.line_end ++ print_section h.fields h.last)
-
 print_request-parts : (h : RequestHead) (rest : List ℕ)
     → print_request h ++ rest ≡ print_blank h.blank ++ (request_line h ++ (print_end h.line_end ++ (print_section h.fields h.last ++ rest)))
 print_request-parts h rest = print_request-append h rest ∙ regroup h.method h.target (print_version h.minor) (print_end h.line_end ++ (print_section h.fields h.last ++ rest))

@@ -24,7 +24,8 @@ is_length value = nat_lt 0 (length value) && (nat_le (length value) MOST_LENGTH_
 abbrev pub stated_length : ℕ → List (List ℕ) → Result ℕ Fault
 stated_length place [] = Ok 0
 stated_length place (value ∷ []) =
-    if is_length value then (if nat_le (digits_value 10 value) MOST_BODY_BYTES then Ok (digits_value 10 value) else Err BodyTooLarge)
+    if is_length value
+    then (if nat_le (digits_value 10 value) MOST_BODY_BYTES then Ok (digits_value 10 value) else Err BodyTooLarge)
     else Err (Head place)
 stated_length place (value ∷ other ∷ values) = Err (Head place)
 

@@ -21,7 +21,8 @@ stream_of i = record { bytes = bytes_held i; place = i.place; continued = i.cont
 -- what the last answer says of the bytes held: after `More` no item is decided, and a request is the next item
 abbrev pub WasTold : ℕ → List ℕ → Bool → Known → Option Next → Type 0
 WasTold place bytes continued known None = ⊤
-WasTold place bytes continued known (Some next.More) = KnowsAll place bytes known × FirstItem place bytes continued false None
+WasTold place bytes continued known (Some next.More) = KnowsAll place bytes known
+    × FirstItem place bytes continued false None
 WasTold place bytes continued known (Some next.Continue) = ⊤
 WasTold place bytes continued known (Some (next.Request r)) =
     (r.body.end ≤ length bytes) × FirstItem place bytes continued false (Some (request (message_of bytes r)))

@@ -74,7 +74,8 @@ AreItems place bytes continued ended [] = FirstItem place bytes continued ended 
 AreItems place bytes continued ended (continue ∷ items) =
     FirstItem place bytes continued ended (Some continue) × AreItems place bytes true ended items
 AreItems place bytes continued ended (request m ∷ items) =
-    FirstItem place bytes continued ended (Some (request m)) × AreAfter m.close items (AreItems (place + m.size) (drop m.size bytes) false ended items)
+    FirstItem place bytes continued ended (Some (request m))
+    × AreAfter m.close items (AreItems (place + m.size) (drop m.size bytes) false ended items)
 AreItems place bytes continued ended (fault f ∷ items) =
     FirstItem place bytes continued ended (Some (fault f)) × (items ≡ [])
 

@@ -44,7 +44,8 @@ state_of_lines lines =
     let before = prefix_len is_empty_line lines in
     let count = prefix_len is_full_line (drop before lines) in
     if nat_lt (MOST_FIELDS + 1) count then crowded
-    else (if nat_lt (before + count) (length lines) then ended (size_of (take (before + count + 1) lines)) else open_head)
+    else (if nat_lt (before + count) (length lines) then ended (size_of (take (before + count + 1) lines))
+    else open_head)
 
 -- a head that is open with all the bytes that a head can have is too large
 abbrev pub unless_open : HeadState → HeadState → HeadState

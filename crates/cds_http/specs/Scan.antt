@@ -26,7 +26,8 @@ use Rattle.cds_http.specs.Front.{Front, fails, heads, ReadsHead, judged}
 abbrev pub state_on : ℕ → ℕ → List (List ℕ) → HeadState
 state_on count at [] = open_head
 state_on count at (line ∷ lines) =
-    if is_empty_line line then (if count == 0 then state_on 0 (at + (length line + 1)) lines else ended (at + (length line + 1)))
+    if is_empty_line line
+    then (if count == 0 then state_on 0 (at + (length line + 1)) lines else ended (at + (length line + 1)))
     else (if count == MOST_FIELDS + 1 then crowded else state_on (count + 1) (at + (length line + 1)) lines)
 
 -- what one more line makes of the count of the head's lines
@@ -44,7 +45,8 @@ pub record IsScanned (bytes : List ℕ) (scan : Scan) : Type 0 where
   -- what stands before it are whole lines
   pub whole : size_of (lines_of (take scan.line bytes)) ≡ scan.line
   -- which leave this state to the lines to come
-  pub state : (lines : List (List ℕ)) → state_on 0 0 (lines_of (take scan.line bytes) ++ lines) ≡ state_on scan.count scan.line lines
+  pub state : (lines : List (List ℕ))
+      → state_on 0 0 (lines_of (take scan.line bytes) ++ lines) ≡ state_on scan.count scan.line lines
   -- and are all empty exactly where none of them is of the head
   pub empty : list_all is_empty_line (lines_of (take scan.line bytes)) ≡ (scan.count == 0)
   pub count : scan.count ≤ MOST_FIELDS + 1
@@ -53,10 +55,12 @@ pub record IsScanned (bytes : List ℕ) (scan : Scan) : Type 0 where
 
 -- what was found in the first bytes of a head
 abbrev pub Finds : List ℕ → Seen → Type 0
-Finds bytes (Open scan) = IsScanned bytes scan × (scan.looked ≡ length bytes) × (state_of_lines (lines_of bytes) ≡ open_head)
+Finds bytes (Open scan) = IsScanned bytes scan × (scan.looked ≡ length bytes)
+    × (state_of_lines (lines_of bytes) ≡ open_head)
 Finds bytes Crowded = state_of_lines (lines_of bytes) ≡ crowded
 Finds bytes (Ended size) =
-    (size ≤ length bytes) × (state_of_lines (lines_of bytes) ≡ ended size) × (state_of_lines (lines_of (take size bytes)) ≡ ended size)
+    (size ≤ length bytes) × (state_of_lines (lines_of bytes) ≡ ended size)
+    × (state_of_lines (lines_of (take size bytes)) ≡ ended size)
 
 -- what the code keeps of a head
 abbrev pub head_of : ℕ → RequestHead → ℕ → Head
@@ -68,7 +72,8 @@ head_of size h body = record {
 -- the code's answer stands for what the head comes to
 abbrev pub StandsFor : Result Head Fault → Front → Type 0
 StandsFor (Err f) front = front ≡ fails f
-StandsFor (Ok head) front = (size : ℕ) × (h : RequestHead) × (body : ℕ) × (front ≡ heads size h body) × (head ≡ head_of size h body)
+StandsFor (Ok head) front = (size : ℕ) × (h : RequestHead) × (body : ℕ) × (front ≡ heads size h body)
+    × (head ≡ head_of size h body)
 
 -- the parser found the head of the grammar, or there is none with so few fields
 abbrev pub ParsesHead : List ℕ → List HeaderSpan → Option RequestSpans → Type 0

@@ -152,16 +152,20 @@ ItemsFrom s more ended items = AreItems s.place (s.bytes ++ more) s.continued en
 
 -- further bytes that are fed are the first of those to come
 abbrev pub AddsPiece : Stream → List ℕ → Stream → Type 0
-AddsPiece s piece t = (more : List ℕ) (ended : Bool) (items : List Item) → ItemsFrom t more ended items → ItemsFrom s (piece ++ more) ended items
+AddsPiece s piece t = (more : List ℕ) (ended : Bool) (items : List Item) → ItemsFrom t more ended items
+    → ItemsFrom s (piece ++ more) ended items
 
 -- What an answer adds to the items: nothing by `More`, and nothing by a request, which is added when it is dropped.
 -- The items of the stream before the answer are what it adds and then the items of the stream after it, whatever
 -- comes yet.
 abbrev pub AddsAnswer : Stream → Next → Stream → Type 0
-AddsAnswer s next.More t = (more : List ℕ) (ended : Bool) (items : List Item) → ItemsFrom t more ended items → ItemsFrom s more ended items
+AddsAnswer s next.More t = (more : List ℕ) (ended : Bool) (items : List Item) → ItemsFrom t more ended items
+    → ItemsFrom s more ended items
 AddsAnswer s next.Continue t =
-    (more : List ℕ) (ended : Bool) (items : List Item) → ItemsFrom t more ended items → ItemsFrom s more ended (continue ∷ items)
-AddsAnswer s (next.Request r) t = (more : List ℕ) (ended : Bool) (items : List Item) → ItemsFrom t more ended items → ItemsFrom s more ended items
+    (more : List ℕ) (ended : Bool) (items : List Item) → ItemsFrom t more ended items
+    → ItemsFrom s more ended (continue ∷ items)
+AddsAnswer s (next.Request r) t = (more : List ℕ) (ended : Bool) (items : List Item) → ItemsFrom t more ended items
+    → ItemsFrom s more ended items
 AddsAnswer s (next.Fault f) t = (more : List ℕ) (ended : Bool) → ItemsFrom s more ended (fault f ∷ [])
 
 -- a request that is dropped is the next item, and where it closes the connection it is the last

@@ -13,10 +13,12 @@ abbrev pub passes : Known → ℕ → Option ℕ
 passes (Lines scan) held = None
 passes (Fault f) held = None
 passes (Head head) held =
-    if head.request.close then None else (if nat_le head.request.body.end held then Some head.request.body.end else None)
+    if head.request.close then None
+    else (if nat_le head.request.body.end held then Some head.request.body.end else None)
 
 -- behind such a message the bytes go on, and have items where what follows has; without one they have items
 abbrev pub GoesOn : ℕ → List ℕ → Option ℕ → Type 0
 GoesOn place bytes None = (ended : Bool) → HaveItems place bytes ended
 GoesOn place bytes (Some size) =
-    (0 < size) × (size ≤ length bytes) × ((ended : Bool) → HaveItems (place + size) (drop size bytes) ended → HaveItems place bytes ended)
+    (0 < size) × (size ≤ length bytes)
+    × ((ended : Bool) → HaveItems (place + size) (drop size bytes) ended → HaveItems place bytes ended)

@@ -44,7 +44,8 @@ fn has_field(head: &[u8], fields: &[HeaderSpan], name: &[u8]) -> bool
 
 fn has_value(head: &[u8], fields: &[HeaderSpan], name: &[u8], value: &[u8]) -> bool
     requires { All (IsHeaderWithin (length head.now)) fields.now }
-    ensures { result ≡ list_any (λ v. eq_ignore_case v value.now) (values_named name.now (map (header_bytes head.now) fields.now)) }
+    ensures { result
+        ≡ list_any (λ v. eq_ignore_case v value.now) (values_named name.now (map (header_bytes head.now) fields.now)) }
 {
     for field in fields {
         if is_named(head, field, name) && eq_ignore_case(field.value.of(head), value) {

@@ -60,7 +60,8 @@ fn passed(known: &Known, held: usize) -> Option<usize>
 
 /// What was fed and not dropped decides the answer alone.
 pub fn one_answer()
-    ensures { (stream : Stream) (answer other : Answer) → Decides stream answer → Decides stream other → answer ≡ other }
+    ensures { (stream : Stream) (answer other : Answer) → Decides stream answer → Decides stream other
+        → answer ≡ other }
 {}
 
 /// Until it is dropped, a request is answered again, whatever is fed.
@@ -77,5 +78,6 @@ pub fn continue_comes_once()
 /// The limits that the definitions cite: of a head, of its fields, of a body, of the digits of its length, and the
 /// room for one greatest message.
 pub fn the_limits()
-    ensures { (MOST_HEAD_BYTES ≡ 16384) × (MOST_FIELDS ≡ 64) × (MOST_BODY_BYTES ≡ 16777216) × (MOST_LENGTH_DIGITS ≡ 19) × (MESSAGE_ROOM ≡ 16793600) }
+    ensures { (MOST_HEAD_BYTES ≡ 16384) × (MOST_FIELDS ≡ 64) × (MOST_BODY_BYTES ≡ 16777216) × (MOST_LENGTH_DIGITS ≡ 19)
+        × (MESSAGE_ROOM ≡ 16793600) }
 {}

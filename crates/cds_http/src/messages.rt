@@ -168,7 +168,8 @@ impl Messages {
     /// request that closes the connection was dropped.
     pub fn next(&mut self) -> Next
         requires { self.old.closed ≡ false }
-        ensures answer { MatchOption (fault_in self.old.last) (Decides self.old result) (λ fault. result ≡ Next.Fault fault) }
+        ensures answer { MatchOption (fault_in self.old.last) (Decides self.old result)
+            (λ fault. result ≡ Next.Fault fault) }
         ensures item { fault_in self.old.last ≡ None → TellsItem self.old result }
         ensures after { self.new ≡ answered self.old result }
         ensures room { result ≡ Next.More → 0 < room_of self.new }
@@ -228,7 +229,8 @@ impl Messages {
     pub fn end(&mut self) -> Option<Fault>
         requires asked { self.old.last ≡ Some Next.More }
         requires not_closed { self.old.closed ≡ false }
-        ensures answer { result ≡ (if is_only_empty_lines self.old.bytes then None else Some (Fault.Truncated self.old.place)) }
+        ensures answer { result
+            ≡ (if is_only_empty_lines self.old.bytes then None else Some (Fault.Truncated self.old.place)) }
         ensures after { self.new ≡ judged_end self.old result }
 
         // With the end of the input, the fault is the one item that is left.

@@ -8,7 +8,7 @@ use Rattle.std.proofs.lemmas.List.Elements.{filter-append}
 use Rattle.cds_base.specs.declared.event.Event.{Event}
 use Rattle.cds_base.specs.declared.peak.RawPeak.{RawPeak}
 use Rattle.cds_base.specs.declared.cluster.Cluster.{Cluster}
-use Rattle.cds_rules.specs.Fields.{Fields}
+use Rattle.cds_rules.specs.Fields.{Fields, row_events}
 use Rattle.cds_trace.specs.Signal.{Signal, IsTrace}
 use Rattle.cds_detect.specs.Raw.{raw_peaks_of}
 use Rattle.cds_detect.specs.Settings.{settings_of}
@@ -20,7 +20,7 @@ use Rattle.cds_integrate.specs.Shapes.{Shape}
 use Rattle.cds_integrate.specs.Measures.{Measured}
 use Rattle.cds_integrate.specs.Shapes.{is_covered, nodes_of, shapes_of}
 use Rattle.cds_integrate.specs.Measures.{measure, measured}
-use Rattle.cds_integrate.specs.Row.{events_of, row_clusters, parts_in}
+use Rattle.cds_integrate.specs.Row.{row_clusters, parts_in}
 use Rattle.cds_integrate.specs.Sums.{area_fraction, lies_within, AreWhole, IsConserved, EachTwo, Conserves}
 use Rattle.cds_integrate.specs.Standing.{InRow}
 use Rattle.cds_integrate.proofs.PartLaws.{IsClear}
@@ -129,11 +129,11 @@ pub row-clusters : (signal : Signal) (fields : Fields) (manual : List Event) →
 row-clusters signal fields manual trace =
     let raw : List RawPeak = raw_peaks_of signal (settings_of fields manual) in
     let stand = raw-stand signal (settings_of fields manual) trace.enough in
-    clusters_of-stand signal (gap_of fields) (events_of fields manual) raw trace.enough stand
+    clusters_of-stand signal (gap_of fields) (row_events fields manual) raw trace.enough stand
 
 -- the areas of all parts of each row
 pub conserves : (signal : Signal) (fields : Fields) (manual : List Event) → IsTrace signal →
     Conserves signal fields manual
 conserves signal fields manual trace =
-    clusters-conserved signal (events_of fields manual) (row_clusters signal fields manual) trace
+    clusters-conserved signal (row_events fields manual) (row_clusters signal fields manual) trace
     (row-clusters signal fields manual trace)

@@ -8,7 +8,7 @@ use Rattle.std.proofs.lemmas.List.Sums.{sum_by-cons}
 use Rattle.cds_base.specs.declared.event.Event.{Event}
 use Rattle.cds_base.specs.declared.peak.RawPeak.{RawPeak}
 use Rattle.cds_base.specs.declared.cluster.Cluster.{Cluster}
-use Rattle.cds_rules.specs.Fields.{Fields}
+use Rattle.cds_rules.specs.Fields.{Fields, row_events}
 use Rattle.cds_trace.specs.Signal.{Signal, IsTrace}
 use Rattle.cds_detect.specs.Raw.{raw_peaks_of}
 use Rattle.cds_detect.specs.Settings.{settings_of}
@@ -19,7 +19,7 @@ use Rattle.cds_events.proofs.ClusterLaws.{clusters_of-few}
 use Rattle.cds_integrate.specs.Shapes.{Shape, nodes_of, shape_of, shapes_of}
 use Rattle.cds_integrate.specs.Measures.{Measured, measure, measured, is_rejected}
 use Rattle.cds_integrate.specs.Peaks.{Found, with_before, kept_of}
-use Rattle.cds_integrate.specs.Row.{Answer, Peaks, TooMany, events_of, row_clusters, found_in, found_of, peaks_in}
+use Rattle.cds_integrate.specs.Row.{Answer, Peaks, TooMany, row_clusters, found_in, found_of, peaks_in}
 use Rattle.cds_integrate.specs.Row.{most_peaks, IsRow}
 use Rattle.cds_integrate.proofs.FoundLaws.{kept-yes, kept-no}
 use Rattle.cds_integrate.proofs.PeakLaws.{peaks-count}
@@ -57,7 +57,7 @@ pub few : (signal : Signal) (fields : Fields) (manual : List Event) (row : Answe
     IsRow signal fields manual row →
     length (peaks_in row) ≤ most_peaks fields manual
 few signal fields manual (Peaks peaks) trace is =
-    let events : List Event = events_of fields manual in
+    let events : List Event = row_events fields manual in
     let raw : List RawPeak = raw_peaks_of signal (settings_of fields manual) in
     omega (
       arith,

@@ -8,7 +8,7 @@ use Rattle.std.proofs.lemmas.List.Elements.{filter-append}
 use Rattle.cds_base.specs.declared.event.Event.{Event}
 use Rattle.cds_base.specs.declared.peak.Peak.{Peak}
 use Rattle.cds_base.specs.declared.cluster.Cluster.{Cluster}
-use Rattle.cds_rules.specs.Fields.{Fields}
+use Rattle.cds_rules.specs.Fields.{Fields, row_events}
 use Rattle.cds_trace.specs.Signal.{Signal, IsTrace}
 use Rattle.cds_trace.specs.Heights.{span}
 use Rattle.cds_integrate.specs.Measures.{Measured}
@@ -17,7 +17,7 @@ use Rattle.cds_integrate.specs.Row.{Answer, Peaks, TooMany}
 use Rattle.cds_trace.specs.Heights.{chord}
 use Rattle.cds_integrate.specs.Measures.{is_rejected}
 use Rattle.cds_integrate.specs.Peaks.{with_before, kept_of, ArePeaks}
-use Rattle.cds_integrate.specs.Row.{events_of, row_clusters, parts_in, parts_of, found_in, found_of, IsRow}
+use Rattle.cds_integrate.specs.Row.{row_clusters, parts_in, parts_of, found_in, found_of, IsRow}
 use Rattle.cds_integrate.specs.Sums.{AreOver, area_fraction, peak_fraction, lies_within, peak_lies_within, IsConserved}
 use Rattle.cds_integrate.specs.Sums.{IsSummed, Sums}
 use Rattle.cds_integrate.proofs.NumberLaws.{share-same}
@@ -139,7 +139,7 @@ row-summed : (signal : Signal) (fields : Fields) (manual : List Event) (naming :
 row-summed signal fields manual naming peaks a b are whole kept =
     let found : List Found = found_of signal fields manual in
     let parts : List Measured = parts_of signal fields manual in
-    let those = found-parts signal fields (events_of fields manual) (row_clusters signal fields manual) in
+    let those = found-parts signal fields (row_events fields manual) (row_clusters signal fields manual) in
     let same = peaks-same signal fields naming 1 a b found peaks are in
     let within : filter (lies_within a b) (map part_of found) ≡ filter (lies_within a b) parts =
     ap (filter (lies_within a b)) those ∙ filter-kept (lies_within a b) (is_rejected signal fields) parts kept in

@@ -8,7 +8,7 @@ use Rattle.cds_base.specs.declared.peak.Ratio.{Ratio}
 use Rattle.cds_base.specs.declared.peak.Peak.{Peak}
 use Rattle.cds_frac.specs.Fraction.{lowest_terms}
 use Rattle.cds_frac.proofs.LowestTerms.{lowest_terms-same}
-use Rattle.cds_rules.specs.Fields.{Fields}
+use Rattle.cds_rules.specs.Fields.{Fields, row_events}
 use Rattle.cds_trace.specs.Signal.{Signal, IsTrace}
 use Rattle.cds_trace.specs.Heights.{span}
 use Rattle.cds_area.specs.Area.{IsRatio}
@@ -19,7 +19,7 @@ use Rattle.cds_names.proofs.Existence.{exactly_one_naming}
 use Rattle.cds_integrate.specs.Measures.{Measured}
 use Rattle.cds_integrate.specs.Peaks.{Found, boundary_height, is_valley_between, neighbour, IsValley, IsPeak, ArePeaks}
 use Rattle.cds_integrate.specs.Peaks.{component_of, time_of}
-use Rattle.cds_integrate.specs.Row.{Answer, Peaks, TooMany, events_of, row_clusters, windows_of, found_of, IsRow}
+use Rattle.cds_integrate.specs.Row.{Answer, Peaks, TooMany, row_clusters, windows_of, found_of, IsRow}
 use Rattle.cds_integrate.specs.Seen.{PeakSeen, peaks, too_many, ratio_seen, peak_seen, heights_seen, seen}
 use Rattle.cds_integrate.specs.Seen.{heights_of, peak_of, peaks_of, naming_of, row_seen}
 use Rattle.cds_integrate.specs.Standing.{IsShape}
@@ -102,9 +102,9 @@ pub seen-is : (signal : Signal) (fields : Fields) (manual : List Event) (row : A
     seen row ≡ row_seen signal fields manual
 seen-is signal fields manual (Peaks list) trace is =
     let found : List Found = found_of signal fields manual in
-    let high = found-high signal fields (events_of fields manual) 0 (row_clusters signal fields manual) trace
+    let high = found-high signal fields (row_events fields manual) 0 (row_clusters signal fields manual) trace
     (row-clusters signal fields manual trace) in
-    let only = (exactly_one_naming (windows_of fields) (map (time_of signal fields) found)).2 in
+    let only = (exactly_one_naming (windows_of fields) (map (time_of signal fields) found)).only in
     let naming : is.1.naming ≡ naming_of (windows_of fields) (map (time_of signal fields) found) =
     only is.1.naming is.1.unblocked in
     let few = le-leb (length (raw_peaks_of signal (settings_of fields manual))) MOST_RAW_PEAKS is.0 in

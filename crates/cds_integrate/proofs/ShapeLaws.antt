@@ -1,6 +1,6 @@
 -- How the parts of a cluster stand on their lines.
 use Rattle.std.proofs.Common.{◌≡◌, ℕ, suc, ◌*◌, ◌<◌, ◌≤◌, inl, inr, Bool, true, false, not, ◌&&◌, List, []}
-use Rattle.std.proofs.Common.{◌∷◌, map, length, All, pos, refl, sym, arith}
+use Rattle.std.proofs.Common.{◌∷◌, map, length, All, pos, refl, sym, ap, ◌∙◌, arith}
 use Rattle.std.proofs.lemmas.List.{length-map}
 use Rattle.std.specs.Prelude.{slice_index_or, nat_lt, ◌==◌}
 use Rattle.std.specs.List.{list_any}
@@ -13,13 +13,13 @@ use Rattle.cds_base.specs.Tiles.{Tiles}
 use Rattle.cds_trace.specs.Signal.{Signal, IsSample, IsTrace, sample_at}
 use Rattle.std.proofs.lemmas.List.Elements.{All-get_or}
 use Rattle.cds_baseline.specs.Chord.{is_over}
-use Rattle.cds_baseline.specs.Cluster.{is_valley}
+use Rattle.cds_baseline.specs.Cluster.{is_valley, cluster_nodes}
 use Rattle.cds_baseline.specs.Tangent.{tangent_sample}
 use Rattle.cds_events.specs.Standing.{IsPart, IsCluster}
 use Rattle.cds_integrate.specs.Shapes.{Shape}
 use Rattle.cds_integrate.specs.Lines.{last_up_to, first_behind}
 use Rattle.cds_integrate.specs.Shapes.{skims, is_covered, nodes_of, is_skimmed, is_rider, rider_shape, plain_shape}
-use Rattle.cds_integrate.specs.Shapes.{shape_of}
+use Rattle.cds_integrate.specs.Shapes.{shape_of, shapes_of}
 use Rattle.cds_integrate.specs.Standing.{from_reach, IsOver, IsShape, InRow}
 use Rattle.cds_integrate.proofs.RiderLaws.{chord-whole}
 use Rattle.cds_integrate.proofs.PartLaws.{IsClear, tiles-order, part-within, clear-at}
@@ -189,3 +189,18 @@ cluster-over signal events cluster is k d below =
           ];
       within = omega (arith, node.within, is.ends);
     }
+
+-- a baseline over the marks of a cluster's parts has the cluster's nodes
+pub nodes-are : (signal : Signal) (events : List Event) (cluster : Cluster) (parts : List Part) (marks : List Bool)
+    (bends : List ℕ) → parts ≡ cluster.parts → marks ≡ map (is_covered signal events) parts →
+    bends ≡ cluster_nodes signal cluster marks → bends ≡ nodes_of signal events cluster
+nodes-are signal events cluster parts marks bends parts_are marks_are bends_are =
+    bends_are ∙ ap (cluster_nodes signal cluster) (marks_are ∙ ap (map (is_covered signal events)) parts_are)
+
+-- shapes over a cluster's parts and nodes are those of the cluster
+pub shapes-are : (signal : Signal) (events : List Event) (cluster : Cluster) (parts : List Part) (bends : List ℕ)
+    (shapes : List Shape) → parts ≡ cluster.parts → bends ≡ nodes_of signal events cluster →
+    shapes ≡ map (shape_of signal events bends) parts → shapes ≡ shapes_of signal events cluster
+shapes-are signal events cluster parts bends shapes parts_are bends_are shapes_are =
+    shapes_are ∙ (ap (λ nodes. map (shape_of signal events nodes) parts) bends_are
+    ∙ ap (map (shape_of signal events (nodes_of signal events cluster))) parts_are)

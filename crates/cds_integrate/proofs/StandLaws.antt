@@ -10,7 +10,7 @@ use Rattle.cds_base.specs.declared.event.Event.{Event}
 use Rattle.cds_base.specs.declared.peak.Line.{Line}
 use Rattle.cds_base.specs.declared.peak.Peak.{Peak}
 use Rattle.cds_base.specs.declared.cluster.Cluster.{Cluster}
-use Rattle.cds_rules.specs.Fields.{Fields}
+use Rattle.cds_rules.specs.Fields.{Fields, row_events}
 use Rattle.cds_trace.specs.Signal.{Signal, IsTrace, sample_at}
 use Rattle.cds_trace.specs.Standing.{IsCrest}
 use Rattle.cds_trace.specs.Heights.{height_by_span}
@@ -30,7 +30,7 @@ use Rattle.cds_integrate.specs.Row.{Answer, Peaks, TooMany}
 use Rattle.cds_integrate.specs.Shapes.{shapes_of}
 use Rattle.cds_integrate.specs.Measures.{measure, measured, is_rejected}
 use Rattle.cds_integrate.specs.Peaks.{with_before, kept_of, crossings_at, ArePeaks, IsPeak, component_of, time_of}
-use Rattle.cds_integrate.specs.Row.{events_of, row_clusters, found_in, found_of, peaks_in, IsRow, StandsIn}
+use Rattle.cds_integrate.specs.Row.{row_clusters, found_in, found_of, peaks_in, IsRow, StandsIn}
 use Rattle.cds_integrate.specs.Standing.{IsShape, InRow}
 use Rattle.cds_integrate.proofs.PeakLaws.{kept-positive}
 use Rattle.cds_integrate.proofs.FoundLaws.{kept-yes, kept-no, cluster-anywhere}
@@ -231,6 +231,6 @@ pub peaks-stand : (signal : Signal) (fields : Fields) (manual : List Event) (row
     All (StandsIn signal) (peaks_in row)
 peaks-stand signal fields manual (Peaks peaks) trace is =
     all-stand signal fields is.1.naming 1 (found_of signal fields manual) peaks trace
-    (found-high signal fields (events_of fields manual) 0 (row_clusters signal fields manual) trace
+    (found-high signal fields (row_events fields manual) 0 (row_clusters signal fields manual) trace
     (row-clusters signal fields manual trace)) is.1.peaks_are
 peaks-stand signal fields manual (TooMany number) trace is = λ k d below. absurd (omega arith)

@@ -1,5 +1,5 @@
 -- A row: what a trace, a method and the manual events of a row give. This project's own rules.
-use Rattle.std.specs.Prelude.{◌≡◌, ℕ, ◌+◌, ◌-◌, ◌*◌, ◌<◌, ◌≤◌, List, [], ◌++◌, All, map, length, Option, Some, IfSome}
+use Rattle.std.specs.Prelude.{◌≡◌, ℕ, ◌+◌, ◌-◌, ◌*◌, ◌<◌, ◌≤◌, List, [], All, map, length, Option, Some, IfSome}
 use Rattle.std.specs.Prelude.{pos}
 use Rattle.std.specs.Prelude.{◌<ℤ◌, unsigned_abs}
 use Rattle.std.specs.List.{flat_map, AllPairs}
@@ -9,14 +9,14 @@ use Rattle.cds_base.specs.declared.event.Event.{Event}
 use Rattle.cds_base.specs.declared.peak.Peak.{Peak}
 use Rattle.cds_base.specs.declared.Window.{Window}
 use Rattle.cds_base.specs.declared.cluster.Cluster.{Cluster}
-use Rattle.cds_rules.specs.Fields.{Fields}
+use Rattle.cds_rules.specs.Fields.{Fields, row_events}
 use Rattle.cds_rules.specs.declared.component.Component.{Component}
 use Rattle.cds_trace.specs.Signal.{Signal}
 use Rattle.cds_detect.specs.Settings.{settings_of}
 use Rattle.cds_detect.specs.Raw.{raw_peaks_of}
 use Rattle.cds_detect.specs.declared.raw.TheConstants.{MOST_RAW_PEAKS}
 use Rattle.cds_events.specs.Drops.{drop_count}
-use Rattle.cds_events.specs.Arrangement.{gap_of, clusters_of}
+use Rattle.cds_events.specs.Arrangement.{clusters_under}
 use Rattle.cds_trace.specs.Standing.{IsCrest}
 use Rattle.cds_names.specs.Naming.{IsUnblocked}
 use Rattle.cds_integrate.specs.Shapes.{shapes_of}
@@ -28,14 +28,10 @@ pub data Answer : Type 0 where
   Peaks : List Peak → Answer
   TooMany : ℕ → Answer
 
--- the events of a row: the method's in their order, and then the row's own
-abbrev pub events_of : Fields → List Event → List Event
-events_of fields manual = fields.events ++ manual
-
 -- the clusters of a row
 abbrev pub row_clusters : Signal → Fields → List Event → List Cluster
 row_clusters signal fields manual =
-    clusters_of signal (gap_of fields) (events_of fields manual) (raw_peaks_of signal (settings_of fields manual))
+    clusters_under signal fields manual (raw_peaks_of signal (settings_of fields manual))
 
 -- the parts of a cluster, rejected ones included
 abbrev pub parts_in : Signal → List Event → Cluster → List Measured
@@ -43,7 +39,8 @@ parts_in signal events cluster = measured signal (shapes_of signal events cluste
 
 -- all parts of a row
 abbrev pub parts_of : Signal → Fields → List Event → List Measured
-parts_of signal fields manual = flat_map (parts_in signal (events_of fields manual)) (row_clusters signal fields manual)
+parts_of signal fields manual =
+    flat_map (parts_in signal (row_events fields manual)) (row_clusters signal fields manual)
 
 -- those of a cluster that aren't rejected
 abbrev pub found_in : Signal → Fields → List Event → Cluster → List Found
@@ -52,7 +49,7 @@ found_in signal fields events cluster = accepted signal fields (parts_in signal 
 -- and those of a row
 abbrev pub found_of : Signal → Fields → List Event → List Found
 found_of signal fields manual =
-    flat_map (found_in signal fields (events_of fields manual)) (row_clusters signal fields manual)
+    flat_map (found_in signal fields (row_events fields manual)) (row_clusters signal fields manual)
 
 -- where a component is looked for, in microseconds
 abbrev pub window_of : Component → Window
@@ -102,7 +99,7 @@ pub record AreComponents (fields : Fields) (peaks : List Peak) : Type 0 where
 
 -- so many peaks a row has at most: as many as it may have raw peaks, and one for each drop event
 abbrev pub most_peaks : Fields → List Event → ℕ
-most_peaks fields manual = MOST_RAW_PEAKS + drop_count (events_of fields manual)
+most_peaks fields manual = MOST_RAW_PEAKS + drop_count (row_events fields manual)
 
 -- what holds of the numbers of each peak of a row, whatever its trace is
 pub record IsSound (peak : Peak) : Type 0 where

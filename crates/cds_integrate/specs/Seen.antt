@@ -115,7 +115,7 @@ peaks_of signal fields naming number (found ∷ rest) =
 
 -- the naming of peaks with these times that no wanted pair blocks: there is exactly one
 abbrev pub naming_of : List Window → List ℕ → List (Option ℕ)
-naming_of windows times = (exactly_one_naming windows times).0
+naming_of windows times = (exactly_one_naming windows times).naming
 
 -- the row of a signal under what a method states and the events of the row
 abbrev pub row_seen : Signal → Fields → List Event → RowSeen

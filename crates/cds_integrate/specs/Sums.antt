@@ -4,7 +4,7 @@ use Rattle.std.specs.Prelude.{◌≡◌, ℕ, ◌*◌, ◌<◌, List, [], ◌∷
 use Rattle.std.specs.List.{fold, filter, list_any}
 use Rattle.cds_base.specs.declared.event.Event.{Event}
 use Rattle.cds_base.specs.declared.peak.Peak.{Peak}
-use Rattle.cds_rules.specs.Fields.{Fields}
+use Rattle.cds_rules.specs.Fields.{Fields, row_events}
 use Rattle.cds_trace.specs.Signal.{Signal}
 use Rattle.cds_trace.specs.Heights.{span}
 use Rattle.cds_area.specs.Area.{area_by_double_span}
@@ -13,7 +13,7 @@ use Rattle.cds_integrate.specs.Row.{Answer, Peaks, TooMany}
 use Rattle.cds_trace.specs.Heights.{chord}
 use Rattle.cds_integrate.specs.Shapes.{nodes_of}
 use Rattle.cds_integrate.specs.Measures.{is_rejected}
-use Rattle.cds_integrate.specs.Row.{events_of, row_clusters, parts_of}
+use Rattle.cds_integrate.specs.Row.{row_clusters, parts_of}
 
 -- these whole numbers, over the divisor den, are the fractions one by one; the divisor of each is above 0
 abbrev pub AreOver : ℕ → List ℤ → List (ℤ × ℕ) → Type 0
@@ -69,7 +69,7 @@ EachTwo P (a ∷ b ∷ samples) = P a b × EachTwo P (b ∷ samples)
 -- P holds of the ends of each baseline line of a row: of each two neighbouring nodes, in each of its clusters
 abbrev pub OverEachLine : Signal → Fields → List Event → (ℕ → ℕ → Type 0) → Type 0
 OverEachLine signal fields manual P =
-    All (λ cluster. EachTwo P (nodes_of signal (events_of fields manual) cluster)) (row_clusters signal fields manual)
+    All (λ cluster. EachTwo P (nodes_of signal (row_events fields manual) cluster)) (row_clusters signal fields manual)
 
 -- over each baseline line of a row the areas of all its parts are conserved
 abbrev pub Conserves : Signal → Fields → List Event → Type 0

@@ -12,9 +12,9 @@ ghost use Rattle.cds_integrate.specs.Standing.{IsShape, Reaches, InRow, IsMeasur
 
 use crate::shapes::Shape;
 use cds_area::{area, height, units};
-use cds_base::{Line, NoMemory, Ratio, Steps};
+use cds_base::{NoMemory, Ratio, Steps};
 use cds_rules::Method;
-use cds_trace::Trace;
+use cds_trace::{Trace, span};
 use std::alloc::Global;
 use std::marker::Model;
 use std::sync::ledger::Ledger;
@@ -35,15 +35,6 @@ impl Model for Measured {
     ghost view = { λ m. record { shape = m.shape; area = m.area; height = m.height } };
 
     ghost inverse = { λ m. record { shape = m.shape; area = m.area; height = m.height } };
-}
-
-/// How many samples lie from one end of a line to the other.
-pub(crate) fn span(line: Line) -> u32
-    requires { line.from < line.to }
-    ensures value { result ≡ span line }
-    ensures some { 0 < result }
-{
-    line.to - line.from
 }
 
 /// How many samples lie from one end of the line of a part to the other.

@@ -1,12 +1,12 @@
 //! The row of a trace.
 ghost use Rattle.std.specs.Prelude.{◌≡◌, ◌+◌, ◌-◌, ◌*◌, ◌++◌, ◌<◌, ◌≤◌, All, IfOk, OnOk, length};
 ghost use Rattle.std.specs.List.{flat_map};
-ghost use Rattle.cds_rules.specs.Fields.{fields_of};
+ghost use Rattle.cds_rules.specs.Fields.{fields_of, row_events};
 ghost use Rattle.cds_detect.specs.Raw.{raw_peaks_of};
 ghost use Rattle.cds_detect.specs.Settings.{settings_of};
 ghost use Rattle.cds_trace.specs.Standing.{RawFrom};
 ghost use Rattle.cds_events.specs.Standing.{IsCluster, ClustersFrom};
-ghost use Rattle.cds_integrate.specs.Row.{events_of, found_in, found_of, peaks_in, most_peaks, AreNamed, AreComponents};
+ghost use Rattle.cds_integrate.specs.Row.{found_in, found_of, peaks_in, most_peaks, AreNamed, AreComponents};
 ghost use Rattle.cds_integrate.specs.Row.{IsSound};
 ghost use Rattle.cds_integrate.specs.Row.{StandsIn, IsRow};
 ghost use Rattle.cds_integrate.specs.Seen.{seen, row_seen};
@@ -100,7 +100,7 @@ fn add_found<L: Ledger>(
     requires cluster { IsCluster trace.now 0 cluster.now }
     requires before { All (IsFound trace.now (fields_of method.now)) found.old.items }
     ensures value { OnOk result (found.new.items
-        ≡ found.old.items ++ found_in trace.now (fields_of method.now) (events_of
+        ≡ found.old.items ++ found_in trace.now (fields_of method.now) (row_events
         (fields_of method.now) manual.now) cluster.now) }
     ensures kept { All (IsFound trace.now (fields_of method.now)) found.new.items }
     ensures wide { OnOk result (widths found.new.items + cluster.now.start ≤ widths found.old.items + cluster.now.end) }
@@ -128,7 +128,7 @@ fn found_of<L: Ledger>(
 ) -> Result<Vec<Found>, NoMemory>
     requires { ClustersFrom trace.now 0 clusters.now }
     ensures value { IfOk result (λ v. v.items
-        ≡ flat_map (found_in trace.now (fields_of method.now) (events_of
+        ≡ flat_map (found_in trace.now (fields_of method.now) (row_events
         (fields_of method.now) manual.now)) clusters.now) }
     ensures kept { IfOk result (λ v. All (IsFound trace.now (fields_of method.now)) v.items) }
     ensures wide { IfOk result (λ v. widths v.items + 1 ≤ length trace.now.samples) }

@@ -1,7 +1,7 @@
 ghost use Rattle.std.specs.Prelude.{◌≡◌, ◌<◌};
 
 use super::*;
-use crate::worked_rows::{COMMON, ONE, PLAIN, ROWS};
+use crate::worked_rows::{COMMON, PLAIN, ROWS};
 use cds_base::{Event, Peak, Ratio, Steps};
 use cds_frac::gcd;
 use cds_rules::Method;
@@ -46,7 +46,7 @@ fn row_of(
     method: &str,
     manual: &str,
 ) -> Result<RowPart, Fail> {
-    let text = format!(in alloc; "{COMMON}{method}")?;
+    let text = format!(in alloc; "{COMMON}{method}\n")?;
     let method = Method::read_toml(alloc, text.as_bytes())?;
     let text = format!(in alloc; "{COMMON}{PLAIN}event = [{manual}]\n")?;
     let own = Method::read_toml(alloc, text.as_bytes())?;
@@ -112,23 +112,63 @@ fn units_of(peak: &Peak) -> Option<i128> {
         .checked_div(i128::from(peak.area.den))
 }
 
+// The whole numbers of a text.
+fn numbers(alloc: Global, text: &str) -> Result<Vec<i32>, Fail> {
+    let mut numbers = Vec::new(alloc);
+    for word in text.split_whitespace() {
+        numbers.push(word.parse::<i32>()?)?;
+    }
+    Ok(numbers)
+}
+
+// Whether a peak is as it is wanted, or begins so where more follows; and its reported area is its area, rounded down.
+fn is_wanted(alloc: Global, peak: &Peak, want: &str) -> Result<bool, Fail> {
+    let text = peak_text(alloc, peak)?;
+    let is_so = match want.strip_suffix("..") {
+        Some(front) => text.as_str().starts_with(front),
+        None => text.as_str() == want,
+    };
+    Ok(is_so && units_of(peak) == Some(i128::from(peak.units)))
+}
+
+// Whether the row of a line has the peaks that the line states.
+fn is_as_stated(alloc: Global, line: &str) -> Result<bool, Fail> {
+    let (_shows, rest) = line.split_once('|').ok_or("a line says what it shows")?;
+    let (samples, rest) = rest.split_once('|').ok_or("a line has samples")?;
+    let (method, rest) = rest.split_once('|').ok_or("a line has a method")?;
+    let (events, wanted) = rest.split_once('|').ok_or("a line has events")?;
+    let samples = numbers(alloc, samples)?;
+    let method = method.replace(alloc, "; ", "\n")?;
+    let got = row_of(alloc, 1_000_000, &samples, method.as_str(), events)?;
+    are_wanted(alloc, got.peaks(), wanted)
+}
+
+// Whether the peaks are those that are wanted, no more and no fewer.
+fn are_wanted(alloc: Global, peaks: &[Peak], wanted: &str) -> Result<bool, Fail> {
+    let mut rest = wanted;
+    for peak in peaks {
+        let (want, behind) = rest.split_once("; ").unwrap_or((rest, ""));
+        if !is_wanted(alloc, peak, want)? {
+            return Ok(false);
+        }
+        rest = behind;
+    }
+    Ok(rest.is_empty())
+}
+
 #[test]
 fn rows_are_those_worked_out_by_hand(rt: HostRuntime) -> Result<(), Fail> {
-    for (shows, samples, method, manual, wanted) in ROWS {
-        let got = row_of(rt.alloc(), 1_000_000, samples, method, manual)?;
-        assert_eq!(rt; got.too_many(), 0, "{shows}");
-        assert_eq!(rt; got.peaks().len(), wanted.len(), "{shows}");
-        for (peak, want) in got.peaks().iter().zip(wanted) {
-            let text = peak_text(rt.alloc(), peak)?;
-            assert!(rt;
-                text.as_bytes().starts_with(want.as_bytes()),
-                "{shows}: {text}"
-            );
-            assert_eq!(rt; units_of(peak), Some(i128::from(peak.units)), "{shows}");
-        }
+    for line in ROWS.lines() {
+        assert!(rt;
+            line.starts_with('#') || is_as_stated(rt.alloc(), line)?,
+            "at {}",
+            line
+        );
     }
     Ok(())
 }
+
+const ONE: &[i32] = &[0, 0, 0, 10, 40, 60, 40, 10, 0, 0, 0];
 
 // Its exact area is 53,333.28 count milliseconds.
 #[test]
@@ -142,7 +182,9 @@ fn reported_areas_and_crossings_are_rounded_down(rt: HostRuntime) -> Result<(), 
 }
 
 #[test]
-fn a_row_has_at_most_five_hundred_raw_peaks(rt: HostRuntime) -> Result<(), Fail> {
+fn a_row_has_at_most_five_hundred_raw_peaks_and_one_peak_more_for_a_drop(
+    rt: HostRuntime,
+) -> Result<(), Fail> {
     let mut samples = Vec::new(rt.alloc());
     for _ in 0..500 {
         samples.extend_from_slice(ONE)?;
@@ -151,6 +193,14 @@ fn a_row_has_at_most_five_hundred_raw_peaks(rt: HostRuntime) -> Result<(), Fail>
     assert_eq!(rt; (most.too_many(), most.peaks().len()), (0, 500));
     let last = most.peaks().last().ok_or("there is no peak")?;
     assert_eq!(rt; (last.start, last.units), (5490, 160_000));
+    let cut = row_of(
+        rt.alloc(),
+        1_000_000,
+        &samples,
+        PLAIN,
+        "{kind = 'drop', at_ms = 6000}",
+    )?;
+    assert_eq!(rt; (cut.too_many(), cut.peaks().len()), (0, 501));
     samples.extend_from_slice(ONE)?;
     let more = row_of(rt.alloc(), 1_000_000, &samples, PLAIN, "")?;
     assert_eq!(rt; (more.too_many(), more.peaks().len()), (501, 0));

@@ -8,7 +8,8 @@ pub record MapState : Type 0 where
   pub is_open : Bool
   pub failing : FailingState
 
--- the records, and whether the store is open
+-- the records, whether the store is open, and how many calls of `load` and `put` there were
 pub record NoFailState : Type 0 where
   pub content : List (List ℕ)
   pub is_open : Bool
+  pub calls : ℕ

@@ -6,12 +6,14 @@
 
 mod error;
 mod keeper;
+mod laws;
 mod map_keeper;
 mod no_fail;
 mod records;
 
 pub use error::{LoadError, PutError};
-pub use keeper::Keeper;
+pub use keeper::{Keeper, RECORD_LIMIT};
+pub use laws::the_limits;
 pub use map_keeper::MapKeeper;
 pub use no_fail::NoFailKeeper;
 pub use records::Records;

@@ -4,7 +4,7 @@ ghost use Rattle.cds_base.specs.Faults.{Rose};
 ghost use Rattle.cds_keep.specs.Found.{records};
 
 use crate::error::{LoadError, PutError};
-use crate::keeper::Keeper;
+use crate::keeper::{Keeper, RECORD_LIMIT};
 use crate::records::Records;
 use cds_base::Failing;
 use std::alloc::{AllocError, Global};
@@ -55,13 +55,9 @@ impl MapKeeper {
 }
 
 impl Keeper for MapKeeper {
-    ghost content = { λ s. Some s.content };
+    ghost told = { λ s. record { content = Some s.content; is_open = s.is_open; faults = s.failing.faults; calls = s.failing.calls } };
 
     ghost finds = { λ s _. Some (records s.content) };
-
-    ghost is_open = { λ s. s.is_open };
-
-    ghost faults = { λ s. s.failing.faults };
 
     /// As the trait says. It fails exactly at the calls that are to fail, and finds no record damaged.
     fn load(&mut self, _store: &str) -> Result<Records, LoadError>
@@ -87,7 +83,7 @@ impl Keeper for MapKeeper {
     /// As the trait says. It fails exactly at the calls that are to fail.
     fn put(&mut self, body: &[u8]) -> Result<(), PutError>
         requires opened { self.old.is_open ≡ true }
-        requires short { length body.now < 2 ^ 32 }
+        requires short { length body.now < RECORD_LIMIT }
         ensures stays_open { self.new.is_open ≡ true }
         ensures appended { OnOk result (self.new.content ≡ self.old.content ++ body.now ∷ []) }
         ensures as_before { OnErr result (self.new.content ≡ self.old.content) }

@@ -13,6 +13,7 @@ use std::marker::Model;
 pub struct NoFailKeeper {
     held: Records,
     is_open: bool,
+    calls: u64,
 }
 
 impl Model for NoFailKeeper {
@@ -20,38 +21,37 @@ impl Model for NoFailKeeper {
 
     ghost Value = { NoFailState };
 
-    ghost view = { λ a. record { content = a.held; is_open = a.is_open } };
+    ghost view = { λ a. record { content = a.held; is_open = a.is_open; calls = a.calls } };
 }
 
 impl NoFailKeeper {
     /// A store without records that isn't open. It takes no memory.
     pub fn new(alloc: Global) -> NoFailKeeper
-        ensures { result ≡ record { content = []; is_open = false } }
+        ensures { result ≡ record { content = []; is_open = false; calls = 0 } }
     {
         NoFailKeeper {
             held: Records::new(alloc),
             is_open: false,
+            calls: 0,
         }
     }
 }
 
 impl Keeper for NoFailKeeper {
-    ghost content = { λ s. Some s.content };
+    ghost told = { λ s. record { content = Some s.content; is_open = s.is_open; faults = 0; calls = s.calls } };
 
     ghost finds = { λ s _. Some (records s.content) };
 
-    ghost is_open = { λ s. s.is_open };
-
-    ghost faults = { λ _. 0 };
-
     fn load(&mut self, _store: &str) -> Result<Records, LoadError> {
         self.is_open = false;
+        self.calls = self.calls.saturating_add(1);
         let records = self.held.copy()?;
         self.is_open = true;
         Ok(records)
     }
 
     fn put(&mut self, body: &[u8]) -> Result<(), PutError> {
+        self.calls = self.calls.saturating_add(1);
         self.held.add(body)?;
         Ok(())
     }

@@ -2,7 +2,7 @@
 use Rattle.std.proofs.Common.{◌≡◌, ℕ, zero, suc, ◌+◌, ◌≤◌, Bool, true, false, cond, List, length, replicate, set, Option, Some, None, refl, ◌∙◌, subst, arith}
 use Rattle.std.proofs.lemmas.List.{length-replicate, length-set}
 use Rattle.cds_base.specs.declared.Window.{Window}
-use Rattle.cds_names.specs.Naming.{IsUnblocked, IsOnlyUnblocked}
+use Rattle.cds_names.specs.Naming.{TheNaming}
 use Rattle.cds_names.specs.Giving.{is_free, peaks_with, taken_with}
 use Rattle.cds_names.proofs.GivingSteps.{Given, Given-none, Given-more, IsUnblocked-given, pair_at, pair_within}
 use Rattle.cds_names.proofs.OneNaming.{same_naming}
@@ -14,25 +14,25 @@ length-cond_set true xs i x = length-set xs i x
 length-cond_set false xs i x = refl
 
 -- what the first n pairs give
-record After (windows : List Window) (apexes : List ℕ) (all : Ordered windows apexes) (n : ℕ) : Type 0 where
+record After (windows : List Window) (times : List ℕ) (all : Ordered windows times) (n : ℕ) : Type 0 where
   peaks : List (Option ℕ)
   taken : List Bool
   one_each : length peaks ≡ length windows
-  one_mark_each : length taken ≡ length apexes
+  one_mark_each : length taken ≡ length times
   given : Given all.pairs n peaks taken
 
-after : (windows : List Window) (apexes : List ℕ) (all : Ordered windows apexes) (n : ℕ) → n ≤ length all.pairs → After windows apexes all n
-after windows apexes all zero le = record {
+after : (windows : List Window) (times : List ℕ) (all : Ordered windows times) (n : ℕ) → n ≤ length all.pairs → After windows times all n
+after windows times all zero le = record {
   peaks = replicate (length windows) None;
-  taken = replicate (length apexes) false;
+  taken = replicate (length times) false;
   one_each = length-replicate (length windows) None;
-  one_mark_each = length-replicate (length apexes) false;
-  given = Given-none all.pairs (length windows) (length apexes);
+  one_mark_each = length-replicate (length times) false;
+  given = Given-none all.pairs (length windows) (length times);
 }
-after windows apexes all (suc n) le =
-    let known = after windows apexes all n (omega arith) in
+after windows times all (suc n) le =
+    let known = after windows times all n (omega arith) in
     let q = pair_at all.pairs n in
-    let within = pair_within windows apexes all.pairs n all.listed (omega arith) in
+    let within = pair_within windows times all.pairs n all.listed (omega arith) in
     let next : n + 1 ≡ suc n = omega arith in
     record {
       peaks = peaks_with known.peaks known.taken q;
@@ -44,9 +44,13 @@ after windows apexes all (suc n) le =
     }
 
 -- there is one naming that no pair blocks, and no other
-pub exactly_one_naming : (windows : List Window) (apexes : List ℕ) → (naming : List (Option ℕ)) × IsUnblocked windows apexes naming × IsOnlyUnblocked windows apexes naming
-exactly_one_naming windows apexes =
-    let all = ordered_pairs windows apexes in
-    let last = after windows apexes all (length all.pairs) (omega arith) in
-    let unblocked = IsUnblocked-given windows apexes all.pairs last.peaks last.taken all.listed all.in_order last.one_each last.given in
-    (last.peaks, unblocked, λ other is. same_naming windows apexes other last.peaks is unblocked)
+pub exactly_one_naming : (windows : List Window) (times : List ℕ) → TheNaming windows times
+exactly_one_naming windows times =
+    let all = ordered_pairs windows times in
+    let last = after windows times all (length all.pairs) (omega arith) in
+    let unblocked = IsUnblocked-given windows times all.pairs last.peaks last.taken all.listed all.in_order last.one_each last.given in
+    record {
+      naming = last.peaks;
+      unblocked = unblocked;
+      only = λ other is. same_naming windows times other last.peaks is unblocked;
+    }

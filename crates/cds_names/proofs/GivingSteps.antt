@@ -1,21 +1,21 @@
 -- Going through the pairs in their order leaves the naming that none blocks.
-use Rattle.std.proofs.Common.{◌≡◌, ◌≢◌, ℕ, zero, suc, ◌+◌, ◌^◌, ◌<◌, ◌≤◌, ◌⊎◌, ◌↔◌, inl, inr, Bool, true, false, not, ◌&&◌, cond, is_none, List, length, get_or, set, replicate, take, drop, ◌++◌, Option, Some, None, Contains, refl, sym, ap, ap₂, ◌∙◌, subst, arith, get_or-set_same, get_or-set_other}
+use Rattle.std.proofs.Common.{◌≡◌, ◌≢◌, ℕ, zero, suc, ◌+◌, ◌<◌, ◌≤◌, ◌⊎◌, ◌↔◌, inl, inr, Bool, true, false, not, ◌&&◌, cond, is_none, List, length, get_or, set, replicate, take, drop, ◌++◌, Option, Some, None, Contains, refl, sym, ap, ap₂, ◌∙◌, subst, arith, get_or-set_same, get_or-set_other}
 use Rattle.std.proofs.lemmas.Bool.{cases_lt, cases_eq, false≢true}
 use Rattle.std.proofs.Math.Seq.{take-append_seam}
 use Rattle.std.proofs.lemmas.List.Elements.{Contains-get_or}
 use Rattle.std.proofs.lemmas.Option.{slice_get_within}
 use Rattle.cds_base.specs.declared.Window.{Window}
-use Rattle.cds_names.specs.declared.wanted.Wanted.{Wanted}
-use Rattle.cds_names.specs.Naming.{IsWanted, IsBefore, peak_of, IsNumbered, HasPair, IsNaming, IsUnblocked}
+use Rattle.cds_names.specs.declared.names.TheConstants.{NUMBER_LIMIT}
+use Rattle.cds_names.specs.Naming.{Pair, IsWanted, IsBefore, peak_of, IsNumbered, HasPair, IsNaming, IsUnblocked}
 use Rattle.cds_names.specs.Wanting.{IsInOrder}
 use Rattle.cds_names.specs.Giving.{peaks_with, taken_with}
 use Rattle.cds_names.proofs.Wants.{same_default}
 
-abbrev pub no_pair : Wanted
+abbrev pub no_pair : Pair
 no_pair = record { distance = 0; component = 0; peak = 0 }
 
 -- the pair at a place
-abbrev pub pair_at : List Wanted → ℕ → Wanted
+abbrev pub pair_at : List Pair → ℕ → Pair
 pair_at pairs k = get_or pairs k no_pair
 
 -- whether the peak has a component
@@ -23,7 +23,7 @@ abbrev is_taken : List Bool → ℕ → Bool
 is_taken taken p = get_or taken p false
 
 -- what holds once the first n pairs were gone through
-pub record Given (pairs : List Wanted) (n : ℕ) (peaks : List (Option ℕ)) (taken : List Bool) : Type 0 where
+pub record Given (pairs : List Pair) (n : ℕ) (peaks : List (Option ℕ)) (taken : List Bool) : Type 0 where
   -- each given pair is one of the first n
   pub from_pairs : (c p : ℕ) → peak_of peaks c ≡ Some p → (m : ℕ) × ((m < n) × (((pair_at pairs m).component ≡ c) × ((pair_at pairs m).peak ≡ p)))
   -- a taken peak has a component, and a given peak is taken
@@ -51,7 +51,7 @@ is_taken-none (suc a) zero = refl
 is_taken-none (suc a) (suc p) = is_taken-none a p
 
 -- before the first pair nothing is given
-pub Given-none : (pairs : List Wanted) (w a : ℕ) → Given pairs 0 (replicate w None) (replicate a false)
+pub Given-none : (pairs : List Pair) (w a : ℕ) → Given pairs 0 (replicate w None) (replicate a false)
 Given-none pairs w a =
     record {
       from_pairs = λ c p is. absurd (none-some (sym (peak_of-none w c) ∙ is));
@@ -61,8 +61,8 @@ Given-none pairs w a =
       settled = λ j below. absurd (omega arith);
     }
 
-module _ (pairs : List Wanted) (n : ℕ) (peaks : List (Option ℕ)) (taken : List Bool) (known : Given pairs n peaks taken) where
-  abbrev q : Wanted
+module _ (pairs : List Pair) (n : ℕ) (peaks : List (Option ℕ)) (taken : List Bool) (known : Given pairs n peaks taken) where
+  abbrev q : Pair
   q = pair_at pairs n
 
   -- a pair that shares a side with a given one changes nothing
@@ -177,17 +177,17 @@ module _ (pairs : List Wanted) (n : ℕ) (peaks : List (Option ℕ)) (taken : Li
       by_sides None false side_is mark_is = added side_is mark_is c_in p_in
 
 -- once all the wanted pairs were gone through in their order, none of them blocks the naming
-pub IsUnblocked-given : (windows : List Window) (apexes : List ℕ) (pairs : List Wanted) (peaks : List (Option ℕ)) (taken : List Bool) → ((p : Wanted) → Contains pairs p ↔ IsWanted windows apexes p) → IsInOrder pairs → length peaks ≡ length windows → Given pairs (length pairs) peaks taken → IsUnblocked windows apexes peaks
-IsUnblocked-given windows apexes pairs peaks taken listed ordered one_each given =
-    let is_wanted : (m : ℕ) → m < length pairs → IsWanted windows apexes (pair_at pairs m) = λ m within. (listed (pair_at pairs m)).0 (Contains-get_or pairs m no_pair within) in
+pub IsUnblocked-given : (windows : List Window) (times : List ℕ) (pairs : List Pair) (peaks : List (Option ℕ)) (taken : List Bool) → ((p : Pair) → Contains pairs p ↔ IsWanted windows times p) → IsInOrder pairs → length peaks ≡ length windows → Given pairs (length pairs) peaks taken → IsUnblocked windows times peaks
+IsUnblocked-given windows times pairs peaks taken listed ordered one_each given =
+    let is_wanted : (m : ℕ) → m < length pairs → IsWanted windows times (pair_at pairs m) = λ m within. (listed (pair_at pairs m)).0 (Contains-get_or pairs m no_pair within) in
     record {
       is_naming = record {
         one_entry_each = one_each;
         wanted = λ c p is.
             let found = given.from_pairs c p is in
-            let pair : Wanted = pair_at pairs found.0 in
+            let pair : Pair = pair_at pairs found.0 in
             let same : pair ≡ record { distance = pair.distance; component = c; peak = p } = ap₂ (λ x y. record { distance = pair.distance; component = x; peak = y }) found.1.1.0 found.1.1.1 in
-            (pair.distance, subst (IsWanted windows apexes) same (is_wanted found.0 found.1.0));
+            (pair.distance, subst (IsWanted windows times) same (is_wanted found.0 found.1.0));
         no_peak_twice = given.no_peak_twice;
       };
       unblocked = λ p blocks.
@@ -198,40 +198,40 @@ IsUnblocked-given windows apexes pairs peaks taken listed ordered one_each given
           let found = given.settled j within in
           let m : ℕ = found.0 in
           let le : m ≤ j = found.1.0 in
-          let other : Wanted = pair_at pairs m in
-          let other_wanted : IsWanted windows apexes other = is_wanted m (omega arith) in
+          let other : Pair = pair_at pairs m in
+          let other_wanted : IsWanted windows times other = is_wanted m (omega arith) in
           let later : IsBefore p other =
           elim found.1.1.1 [
-            | inl component ↦ blocks.component_would other other_wanted found.1.1.0 (component ∙ ap (λ (r : Wanted). r.component) here)
-            | inr peak ↦ blocks.peak_would other other_wanted found.1.1.0 (peak ∙ ap (λ (r : Wanted). r.peak) here)
+            | inl component ↦ blocks.component_would other other_wanted found.1.1.0 (component ∙ ap (λ (r : Pair). r.component) here)
+            | inr peak ↦ blocks.peak_would other other_wanted found.1.1.0 (peak ∙ ap (λ (r : Pair). r.peak) here)
           ] in
           ordered m j no_pair le within (subst (λ r. IsBefore r other) (sym here) later);
     }
 
 -- the same where the pairs were counted up to n, and read from another list that is the same
-pub IsUnblocked-counted : (windows : List Window) (apexes : List ℕ) (sorted pairs : List Wanted) (n : ℕ) (peaks : List (Option ℕ)) (taken : List Bool) → pairs ≡ sorted → n ≡ length pairs → ((p : Wanted) → Contains sorted p ↔ IsWanted windows apexes p) → IsInOrder sorted → length peaks ≡ length windows → Given pairs n peaks taken → IsUnblocked windows apexes peaks
-IsUnblocked-counted windows apexes sorted pairs n peaks taken same all listed ordered one_each given =
-    IsUnblocked-given windows apexes pairs peaks taken
-    (subst (λ ps. (p : Wanted) → Contains ps p ↔ IsWanted windows apexes p) (sym same) listed)
+pub IsUnblocked-counted : (windows : List Window) (times : List ℕ) (sorted pairs : List Pair) (n : ℕ) (peaks : List (Option ℕ)) (taken : List Bool) → pairs ≡ sorted → n ≡ length pairs → ((p : Pair) → Contains sorted p ↔ IsWanted windows times p) → IsInOrder sorted → length peaks ≡ length windows → Given pairs n peaks taken → IsUnblocked windows times peaks
+IsUnblocked-counted windows times sorted pairs n peaks taken same all listed ordered one_each given =
+    IsUnblocked-given windows times pairs peaks taken
+    (subst (λ ps. (p : Pair) → Contains ps p ↔ IsWanted windows times p) (sym same) listed)
     (subst IsInOrder (sym same) ordered)
     one_each
     (subst (λ k. Given pairs k peaks taken) all given)
 
 -- the numbers of components and peaks stay below 2^32 where there are fewer of each
-pub IsNumbered-naming : (windows : List Window) (apexes : List ℕ) (naming : List (Option ℕ)) → length windows < 2 ^ 32 → length apexes < 2 ^ 32 → IsNaming windows apexes naming → IsNumbered naming
-IsNumbered-naming windows apexes naming few_windows few_apexes is =
+pub IsNumbered-naming : (windows : List Window) (times : List ℕ) (naming : List (Option ℕ)) → length windows < NUMBER_LIMIT → length times < NUMBER_LIMIT → IsNaming windows times naming → IsNumbered naming
+IsNumbered-naming windows times naming few_windows few_times is =
     record {
       few = omega (arith, is.one_entry_each);
       numbers = λ c p has.
           let wanted = is.wanted c p has in
-          omega (arith, slice_get_within apexes p wanted.1.apex wanted.1.peak_is);
+          omega (arith, slice_get_within times p wanted.1.time wanted.1.peak_is);
     }
 
 -- both sides of a listed pair are there
-pub pair_within : (windows : List Window) (apexes : List ℕ) (pairs : List Wanted) (n : ℕ) → ((p : Wanted) → Contains pairs p ↔ IsWanted windows apexes p) → n < length pairs → ((pair_at pairs n).component < length windows) × ((pair_at pairs n).peak < length apexes)
-pair_within windows apexes pairs n listed within =
-    let wanted : IsWanted windows apexes (pair_at pairs n) = (listed (pair_at pairs n)).0 (Contains-get_or pairs n no_pair within) in
-    (slice_get_within windows (pair_at pairs n).component wanted.window wanted.component_is, slice_get_within apexes (pair_at pairs n).peak wanted.apex wanted.peak_is)
+pub pair_within : (windows : List Window) (times : List ℕ) (pairs : List Pair) (n : ℕ) → ((p : Pair) → Contains pairs p ↔ IsWanted windows times p) → n < length pairs → ((pair_at pairs n).component < length windows) × ((pair_at pairs n).peak < length times)
+pair_within windows times pairs n listed within =
+    let wanted : IsWanted windows times (pair_at pairs n) = (listed (pair_at pairs n)).0 (Contains-get_or pairs n no_pair within) in
+    (slice_get_within windows (pair_at pairs n).component wanted.window wanted.component_is, slice_get_within times (pair_at pairs n).peak wanted.time wanted.peak_is)
 
 -- what a slice of a whole list leaves in the list
 pub written_back : {A : Type 0} (n k : ℕ) (new items : List A) → length new ≡ n → take n (new ++ drop k items) ≡ new

@@ -1,4 +1,4 @@
--- The wanted pairs of any windows and apexes can be listed in their order.
+-- The wanted pairs of any windows and times can be listed in their order.
 use Rattle.std.proofs.Common.{◌≡◌, ℕ, zero, suc, ◌+◌, ◌<◌, ◌≤◌, ◌↔◌, ◌⊎◌, inl, inr, List, [], ◌∷◌, ◌++◌, length, get_or, map, Contains, refl, sym, subst, arith}
 use Rattle.std.specs.Int.{abs_diff}
 use Rattle.std.specs.List.{range_with_len}
@@ -7,11 +7,9 @@ use Rattle.std.proofs.lemmas.List.Elements.{Contains-get_or}
 use Rattle.std.proofs.lemmas.List.Sorted.{Contains-permutation, IsPermutation-sym}
 use Rattle.std.proofs.lemmas.Option.{slice_get-get_or}
 use Rattle.cds_base.specs.declared.Window.{Window}
-use Rattle.cds_names.specs.declared.wanted.Wanted.{Wanted}
-use Rattle.cds_names.specs.declared.wanted.Apex.{Apex}
-use Rattle.cds_names.specs.Naming.{IsWanted}
-use Rattle.cds_names.specs.Wanting.{IsInWindow, IsInOrder, pair_of}
-use Rattle.cds_names.proofs.Listing.{apex_at, Contains-listed}
+use Rattle.cds_names.specs.Naming.{Pair, IsWanted}
+use Rattle.cds_names.specs.Wanting.{PeakTime, IsInWindow, IsInOrder, pair_of}
+use Rattle.cds_names.proofs.Listing.{time_at, Contains-listed}
 use Rattle.cds_names.proofs.OneNaming.{place, place_lt}
 use Rattle.cds_names.proofs.Sorting.{sorted_by}
 use Rattle.cds_names.proofs.Wants.{WantedBelow, wanted_more, below_all}
@@ -24,8 +22,8 @@ first_or_rest p xs x (suc k, below, is) = inr (k, omega arith, is)
 in_rest : {X : Type 0} (p : X) (xs : List X) (x : X) → Contains xs x → Contains (p ∷ xs) x
 in_rest p xs x (k, below, is) = (suc k, omega arith, is)
 
--- the apexes that lie in a window
-near : (w : Window) (xs : List Apex) → (ys : List Apex) × ((x : Apex) → Contains ys x ↔ (Contains xs x × IsInWindow w x))
+-- the times that lie in a window
+near : (w : Window) (xs : List PeakTime) → (ys : List PeakTime) × ((x : PeakTime) → Contains ys x ↔ (Contains xs x × IsInWindow w x))
 near w [] = ([], λ x. (λ (k, below, is). absurd (omega arith), λ known. known.0))
 near w (p ∷ xs) =
     let rest = near w xs in
@@ -59,38 +57,38 @@ near w (p ∷ xs) =
     ]
 
 -- the wanted pairs of the first n components
-wanted_below : (windows : List Window) (apexes : List ℕ) (n : ℕ) → n ≤ length windows → (pairs : List Wanted) × ((q : Wanted) → Contains pairs q ↔ WantedBelow windows apexes n q)
-wanted_below windows apexes zero le = ([], λ q. (λ (k, below, is). absurd (omega arith), λ is. absurd (let none : q.component < 0 = is.1 in omega arith)))
-wanted_below windows apexes (suc n) le =
-    let known = wanted_below windows apexes n (omega arith) in
+wanted_below : (windows : List Window) (times : List ℕ) (n : ℕ) → n ≤ length windows → (pairs : List Pair) × ((q : Pair) → Contains pairs q ↔ WantedBelow windows times n q)
+wanted_below windows times zero le = ([], λ q. (λ (k, below, is). absurd (omega arith), λ is. absurd (let none : q.component < 0 = is.1 in omega arith)))
+wanted_below windows times (suc n) le =
+    let known = wanted_below windows times n (omega arith) in
     let no_window : Window = record { time_us = 0; width_us = 0 } in
     let w : Window = get_or windows n no_window in
-    let peaks : List Apex = map (apex_at apexes) (range_with_len 0 (length apexes)) in
+    let peaks : List PeakTime = map (time_at times) (range_with_len 0 (length times)) in
     let inside = near w peaks in
     let next : n + 1 ≡ suc n = omega arith in (
       known.0 ++ map (pair_of w n) inside.0,
-      λ q. subst (λ i. Contains (known.0 ++ map (pair_of w n) inside.0) q ↔ WantedBelow windows apexes i q) next
-          (wanted_more windows apexes peaks inside.0 w n known.0 (known.0 ++ map (pair_of w n) inside.0) (slice_get-get_or windows n no_window (omega arith)) (Contains-listed apexes) inside.1 known.1 refl q),
+      λ q. subst (λ i. Contains (known.0 ++ map (pair_of w n) inside.0) q ↔ WantedBelow windows times i q) next
+          (wanted_more windows times peaks inside.0 w n known.0 (known.0 ++ map (pair_of w n) inside.0) (slice_get-get_or windows n no_window (omega arith)) (Contains-listed times) inside.1 known.1 refl q),
     )
 
 -- the wanted pairs of all components, in their order
-pub record Ordered (windows : List Window) (apexes : List ℕ) : Type 0 where
-  pub pairs : List Wanted
-  pub listed : (q : Wanted) → Contains pairs q ↔ IsWanted windows apexes q
+pub record Ordered (windows : List Window) (times : List ℕ) : Type 0 where
+  pub pairs : List Pair
+  pub listed : (q : Pair) → Contains pairs q ↔ IsWanted windows times q
   pub in_order : IsInOrder pairs
 
-pub ordered_pairs : (windows : List Window) (apexes : List ℕ) → Ordered windows apexes
-ordered_pairs windows apexes =
-    let known = wanted_below windows apexes (length windows) (omega arith) in
-    let sorted = sorted_by (place windows apexes) known.0 in
-    let listed : (q : Wanted) → Contains sorted.0 q ↔ IsWanted windows apexes q = λ q. (
+pub ordered_pairs : (windows : List Window) (times : List ℕ) → Ordered windows times
+ordered_pairs windows times =
+    let known = wanted_below windows times (length windows) (omega arith) in
+    let sorted = sorted_by (place windows times) known.0 in
+    let listed : (q : Pair) → Contains sorted.0 q ↔ IsWanted windows times q = λ q. (
       λ found. ((known.1 q).0 (Contains-permutation sorted.0 known.0 q (IsPermutation-sym known.0 sorted.0 sorted.1.0) found)).0,
-      λ wanted. Contains-permutation known.0 sorted.0 q sorted.1.0 ((known.1 q).1 (wanted, below_all windows apexes q (length windows) wanted (omega arith))),
+      λ wanted. Contains-permutation known.0 sorted.0 q sorted.1.0 ((known.1 q).1 (wanted, below_all windows times q (length windows) wanted (omega arith))),
     ) in
     record {
       pairs = sorted.0;
       listed = listed;
       in_order = λ i j d le below first.
-          let later : IsWanted windows apexes (get_or sorted.0 j d) = (listed (get_or sorted.0 j d)).0 (Contains-get_or sorted.0 j d below) in
-          omega (arith, place_lt windows apexes (get_or sorted.0 j d) (get_or sorted.0 i d) later first, sorted.1.1 i j d le below);
+          let later : IsWanted windows times (get_or sorted.0 j d) = (listed (get_or sorted.0 j d)).0 (Contains-get_or sorted.0 j d below) in
+          omega (arith, place_lt windows times (get_or sorted.0 j d) (get_or sorted.0 i d) later first, sorted.1.1 i j d le below);
     }

@@ -1,28 +1,32 @@
--- The wanted pairs of one component, and all of them in their order.
+-- The wanted pairs of one component, and all of them in their order. For private functions alone.
 use Rattle.std.specs.Prelude.{ℕ, ◌-◌, ◌<◌, ◌≤◌, List, length, slice_index_or}
 use Rattle.std.specs.Int.{abs_diff}
 use Rattle.cds_base.specs.declared.Window.{Window}
-use Rattle.cds_names.specs.declared.wanted.Wanted.{Wanted}
-use Rattle.cds_names.specs.declared.wanted.Apex.{Apex}
-use Rattle.cds_names.specs.Naming.{IsBefore}
+use Rattle.cds_names.specs.Naming.{Pair, IsBefore}
 
--- the apex lies in the window
-abbrev pub IsInWindow : Window → Apex → Type 0
-IsInWindow window apex = abs_diff window.time_us apex.time ≤ window.width_us
+-- the time of a peak, in microseconds from the start of the trace, and the peak's place
+pub record PeakTime : Type 0 where
+  pub time : ℕ
+  pub peak : ℕ
 
--- the apex comes before the window
-abbrev pub IsBeforeWindow : Window → Apex → Type 0
-IsBeforeWindow window apex = window.width_us < window.time_us - apex.time
+-- the peak lies in the window
+abbrev pub IsInWindow : Window → PeakTime → Type 0
+IsInWindow window peak = abs_diff window.time_us peak.time ≤ window.width_us
 
--- the apex comes after the window
-abbrev pub IsAfterWindow : Window → Apex → Type 0
-IsAfterWindow window apex = window.width_us < apex.time - window.time_us
+-- the peak comes before the window
+abbrev pub IsBeforeWindow : Window → PeakTime → Type 0
+IsBeforeWindow window peak = window.width_us < window.time_us - peak.time
 
--- the pair of a component with this window and a peak with this apex
-abbrev pub pair_of : Window → ℕ → Apex → Wanted
-pair_of window component apex =
-    record { distance = abs_diff window.time_us apex.time; component = component; peak = apex.peak }
+-- the peak comes after the window
+abbrev pub IsAfterWindow : Window → PeakTime → Type 0
+IsAfterWindow window peak = window.width_us < peak.time - window.time_us
+
+-- the pair of a component with this window and a peak of this time
+abbrev pub pair_of : Window → ℕ → PeakTime → Pair
+pair_of window component peak =
+    record { distance = abs_diff window.time_us peak.time; component = component; peak = peak.peak }
 
 -- no pair comes before itself or before one that stands ahead of it
-abbrev pub IsInOrder : List Wanted → Type 0
-IsInOrder pairs = (i j : ℕ) (d : Wanted) → i ≤ j → j < length pairs → IsBefore (slice_index_or pairs j d) (slice_index_or pairs i d) → ⊥
+abbrev pub IsInOrder : List Pair → Type 0
+IsInOrder pairs = (i j : ℕ) (d : Pair) → i ≤ j → j < length pairs
+    → IsBefore (slice_index_or pairs j d) (slice_index_or pairs i d) → ⊥

@@ -8,5 +8,5 @@ mod names;
 mod tests;
 mod wanted;
 
-pub use laws::there_is_exactly_one_naming;
-pub use names::{Names, name_peaks};
+pub use laws::{the_limits, there_is_exactly_one_naming};
+pub use names::{NUMBER_LIMIT, Names, name_peaks};

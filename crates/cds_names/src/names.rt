@@ -1,5 +1,6 @@
 //! The naming of peaks.
-ghost use Rattle.std.specs.Prelude.{◌≡◌, ◌<◌, ◌^◌, length, slice_get, IfOk};
+ghost use Rattle.std.specs.Prelude.{◌≡◌, ◌<◌, length, slice_get, IfOk};
+ghost use Rattle.cds_names.specs.declared.names.TheConstants.{NUMBER_LIMIT};
 ghost use Rattle.cds_names.specs.Naming.{IsUnblocked, IsOnlyUnblocked, number_of};
 ghost use Rattle.cds_names.specs.Giving.{peaks_with, taken_with};
 
@@ -8,8 +9,11 @@ use cds_base::{NoMemory, Window};
 use std::alloc::Global;
 use std::marker::Model;
 
+/// Components and peaks have numbers below this one, 2^32.
+pub const NUMBER_LIMIT: u64 = 1 << 32;
+
 /// Which peak each component names. Seen as the list of the components' peaks, which are known by their places, from
-/// 0. It answers by numbers, counted from 1. There are fewer than 2^32 components, and as many peaks at most.
+/// 0. It answers by numbers, counted from 1. There are fewer components than `NUMBER_LIMIT`, and as many peaks at most.
 #[derive(Debug, Drop)]
 pub struct Names {
     peaks: Vec<Option<u32>>,
@@ -57,22 +61,22 @@ impl Names {
     }
 }
 
-/// Names the peaks whose apexes are given, in microseconds from the start of the trace.
+/// Names the peaks whose times are given, in microseconds from the start of the trace.
 ///
-/// A component wants each peak whose apex is at most its window's width from its expected time. Wanted pairs
+/// A component wants each peak whose time is at most its window's width from its expected time. Wanted pairs
 /// are ordered by that distance, then by the component's place, then by the peak's. A naming gives each component
 /// at most one wanted peak and each peak at most one component. A wanted pair blocks it where its component has
 /// no peak or one of a later pair, and its peak has no component or one of a later pair. The answer is the one
 /// naming that no pair blocks. This is the project's own rule. Err only for want of memory.
-pub fn name_peaks(alloc: Global, windows: &[Window], apexes: &[u64]) -> Result<Names, NoMemory>
-    requires few_windows { length windows.now < 2 ^ 32 }
-    requires few_apexes { length apexes.now < 2 ^ 32 }
-    ensures unblocked { IfOk result (IsUnblocked windows.now apexes.now) }
-    ensures only_one { IfOk result (IsOnlyUnblocked windows.now apexes.now) }
+pub fn name_peaks(alloc: Global, windows: &[Window], times: &[u64]) -> Result<Names, NoMemory>
+    requires few_windows { length windows.now < NUMBER_LIMIT }
+    requires few_times { length times.now < NUMBER_LIMIT }
+    ensures unblocked { IfOk result (IsUnblocked windows.now times.now) }
+    ensures only_one { IfOk result (IsOnlyUnblocked windows.now times.now) }
 {
-    let pairs = wanted_pairs(alloc, windows, apexes)?;
+    let pairs = wanted_pairs(alloc, windows, times)?;
     let mut peaks = vec![in alloc; None; windows.len()]?;
-    let mut taken = vec![in alloc; false; apexes.len()]?;
+    let mut taken = vec![in alloc; false; times.len()]?;
     for pair in &pairs {
         give(&mut peaks, &mut taken, *pair);
     }

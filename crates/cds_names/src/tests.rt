@@ -30,9 +30,9 @@ fn components_name_the_nearest_peaks_that_no_nearer_pair_takes(
         (&far, &[], &[None, None]),
         (&[], &two_peaks, &[]),
     ];
-    for (windows, apexes, wanted) in rows {
-        assert!(rt; windows.len() < 10 && apexes.len() < 10);
-        let names = name_peaks(rt.alloc(), windows, apexes)?;
+    for (windows, times, wanted) in rows {
+        assert!(rt; windows.len() < 10 && times.len() < 10);
+        let names = name_peaks(rt.alloc(), windows, times)?;
         assert_eq!(rt; names.len() as usize, wanted.len());
         for (place, peak) in wanted.iter().enumerate() {
             assert!(rt; place < 10);

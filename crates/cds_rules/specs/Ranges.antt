@@ -2,7 +2,7 @@
 use Rattle.std.specs.Prelude.{◌≡◌, ◌≢◌, ℕ, ◌<◌, ◌≤◌, Bool, true, false, List, length, All, AllPairs, Option, is_some}
 use Rattle.std.specs.Option.{ForSome}
 use Rattle.cds_base.specs.declared.time.TheConstants.{LAST_TIME_MS, LAST_TIME_US}
-use Rattle.cds_fields.specs.declared.limits.TheConstants.{MOST_SLOPE}
+use Rattle.cds_base.specs.declared.event.TheConstants.{MOST_SLOPE}
 use Rattle.cds_rules.specs.declared.component.Component.{Component}
 use Rattle.cds_rules.specs.declared.check.Check.{Check}
 use Rattle.cds_rules.specs.declared.check.CheckKind.{CheckKind}

@@ -7,15 +7,13 @@ use Rattle.cds_base.specs.Answers.{◌>>=◌, unless}
 use Rattle.cds_base.specs.declared.event.Event.{Event}
 use Rattle.cds_base.specs.declared.time.TheConstants.{LAST_TIME_MS, LAST_TIME_US}
 use Rattle.cds_fields.specs.Event.{events_of}
-use Rattle.cds_fields.specs.Refusals.{Refusals}
 use Rattle.cds_fields.specs.Section.{Section, Entry, has, required, optional, only, optional_entries, entry_section, each}
 use Rattle.cds_fields.specs.Toml.{toml_fields}
 use Rattle.cds_fields.specs.Values.{number_in, name_in, one_of}
-use Rattle.cds_fields.specs.declared.limits.TheConstants.{MOST_SLOPE, MOST_EVENTS}
+use Rattle.cds_base.specs.declared.event.TheConstants.{MOST_SLOPE, MOST_EVENTS}
 use Rattle.cds_rules.specs.declared.check.Check.{Check}
 use Rattle.cds_rules.specs.declared.check.CheckKind.{CheckKind}
 use Rattle.cds_rules.specs.declared.component.Component.{Component}
-use Rattle.cds_rules.specs.declared.method.Weight.{Weight}
 use Rattle.cds_rules.specs.declared.error.MethodError.{MethodError}
 use Rattle.cds_rules.specs.declared.error.MethodError.TheVariants.{NotToml, TwoComponents, TooLong}
 use Rattle.cds_rules.specs.declared.limits.TheConstants.{MOST_BUNCH, MOST_PLATEAU, MOST_FUSE, MOST_AREA, MOST_HEIGHT, FIRST_RULES, LAST_RULES, MOST_COMPONENTS, MOST_CHECKS, MOST_METHOD_BYTES}

@@ -25,8 +25,6 @@ pub use limits::{
     MOST_HEIGHT, MOST_LIMIT, MOST_METHOD_BYTES, MOST_PLATEAU, MOST_R2_LIMIT,
 };
 pub use method::{Method, Weight};
-/// The limits of events, which a method shares with the rows of a sequence.
-pub use cds_fields::{MOST_EVENTS, MOST_SLOPE};
 
 #[cfg(test)]
 mod tests;

@@ -1,15 +1,14 @@
 //! What a method states.
 ghost use Rattle.std.specs.Prelude.{◌≡◌, ◌≤◌};
-ghost use Rattle.cds_fields.specs.Event.{EventRanges};
-ghost use Rattle.cds_fields.specs.declared.limits.TheConstants.{MOST_SLOPE};
+ghost use Rattle.cds_base.specs.EventRange.{EventRanges};
+ghost use Rattle.cds_base.specs.declared.event.TheConstants.{MOST_SLOPE};
 ghost use Rattle.cds_rules.specs.Ranges.{SlopeRanges, LeastRanges, TimeRanges, RulesRange, ComponentRanges, CheckRanges};
 ghost use Rattle.cds_rules.specs.declared.limits.TheConstants.{MOST_BUNCH, MOST_PLATEAU};
 
 use crate::check::CheckList;
 use crate::component::ComponentList;
 use crate::limits::{FIRST_RULES, MOST_BUNCH, MOST_PLATEAU};
-use cds_base::EventList;
-use cds_fields::MOST_SLOPE;
+use cds_base::{EventList, MOST_SLOPE};
 use std::alloc::Global;
 
 /// How the points of a calibration line are weighted.

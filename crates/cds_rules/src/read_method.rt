@@ -1,7 +1,7 @@
 //! Reading a method from its text.
 ghost use Rattle.std.specs.Prelude.{IfOk};
 ghost use Rattle.cds_base.specs.Answers.{Gives};
-ghost use Rattle.cds_fields.specs.Event.{EventRanges};
+ghost use Rattle.cds_base.specs.EventRange.{EventRanges};
 ghost use Rattle.cds_fields.specs.Section.{only};
 ghost use Rattle.cds_rules.specs.declared.error.MethodError.TheVariants.{NoMemory};
 ghost use Rattle.cds_rules.specs.Fields.{fields_of};
@@ -14,8 +14,8 @@ use crate::method::Method;
 use crate::read_check::checks;
 use crate::read_component::components;
 use crate::read_settings::settings;
-use cds_base::EventList;
-use cds_fields::{MOST_EVENTS, Section, read_toml};
+use cds_base::{EventList, MOST_EVENTS};
+use cds_fields::{Section, read_toml};
 use std::alloc::Global;
 use toml::Value;
 

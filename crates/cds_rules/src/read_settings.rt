@@ -19,8 +19,8 @@ use crate::limits::{
 };
 use crate::method::{Method, Weight};
 use crate::values::weight_in;
-use cds_base::{EventList, LAST_TIME_MS, LAST_TIME_US};
-use cds_fields::{MOST_SLOPE, Section};
+use cds_base::{EventList, LAST_TIME_MS, LAST_TIME_US, MOST_SLOPE};
+use cds_fields::Section;
 use toml::Value;
 
 /// The fields of a method that are no lists, in the order of judging. The lists of the method are still empty.

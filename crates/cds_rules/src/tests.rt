@@ -16,174 +16,79 @@ const LISTS: &str =
 [[check]]\nkind = \"resolution\"\ncomponent = \"theo.2\"\nother = \"caf\"\nlimit = 150
 [[check]]\nkind = \"r2\"\ncomponent = \"caf\"\nlimit = 10000\n";
 
-// Each refusal: the part of the text, what stands there in its place, the number of the refusal and what it shows.
-const REFUSALS: [(&str, &str, u8, &str); 49] = [
-    ("bunch = 1\n", "bunch =\n", 1, ""),
-    ("bunch = 1\n", "bunch = 1\nbunch = 1\n", 1, ""),
-    ("bunch = 1\n", "", 2, "bunch"),
-    ("bunch = 1\n", "a = 1\n", 2, "bunch"),
-    ("bunch = 1\n", "bunch = 0\n", 4, "bunch"),
-    ("bunch = 1\n", "bunch = 65\n", 4, "bunch"),
-    ("bunch = 1\n", "bunch = 1.0\n", 4, "bunch"),
-    ("slope_on = 5", "slope_on = 1000000001", 4, "slope_on"),
-    ("slope_off = 6", "slope_off = 0", 4, "slope_off"),
-    ("plateau = 3", "plateau = 1001", 4, "plateau"),
-    ("fuse = 2", "fuse = -1", 4, "fuse"),
-    ("min_area = 7", "min_area = 4000000000000001", 4, "min_area"),
-    ("min_height = 8", "min_height = 200000001", 4, "min_height"),
-    ("\"origin\"", "\"none\"", 4, "weight"),
-    ("# end", "dead_time_us = 0", 4, "dead_time_us"),
-    ("# end", "noise_to_ms = \"x\"", 2, "noise_from_ms"),
-    ("# end", "noise_from_ms = 5", 2, "noise_to_ms"),
-    (
-        "# end",
-        "noise_from_ms = 5\nnoise_to_ms = 5",
-        4,
-        "noise_to_ms",
-    ),
-    ("# end", "rules = 0", 4, "rules"),
-    ("# end", "rules = 3", 4, "rules"),
-    ("# end", "z = 1\nab = 1\nb = 1", 3, "ab"),
-    ("# end", "z = 1\ncomponent = 1", 3, "z"),
-    ("# end", "event = 1\ncomponent = 1", 4, "component"),
-    ("# end", "check = 1\nevent = 1", 4, "event"),
-    ("# end", "component = [1]", 4, "component.1"),
-    (
-        "# end",
-        "component = [1,1,1,1,1,1,1,1,1,1,1,1,1,1,1,1,1,1,1,1,1,1,1,1,1,1,1,1,1,1,1,1,1]",
-        6,
-        "component",
-    ),
-    ("# end", "[[component]]", 2, "component.1.name"),
-    (
-        "# end",
-        "[[component]]\nname = \"a b\"",
-        4,
-        "component.1.name",
-    ),
-    (
-        "# end",
-        "[[component]]\nname = \"a\"\ntime_ms = 1\nwindow_ms = 1\n[[component]]\nname = \"a\"",
-        5,
-        "a",
-    ),
-    (
-        "# end",
-        "[[component]]\nname = \"a\"\ntime_ms = 14400001\nwindow_ms = 1",
-        4,
-        "component.1.time_ms",
-    ),
-    (
-        "# end",
-        "[[component]]\nname = \"a\"\ntime_ms = 1",
-        2,
-        "component.1.window_ms",
-    ),
-    (
-        "# end",
-        "[[component]]\nname = \"a\"\ntime_ms = 1\nwindow_ms = 1\nx = 1",
-        3,
-        "component.1.x",
-    ),
-    ("# end", "[[event]]", 2, "event.1.kind"),
-    ("# end", "[[event]]\nkind = \"gate\"", 4, "event.1.kind"),
-    (
-        "# end",
-        "[[event]]\nkind = \"valley\"\nfrom_ms = 5\nto_ms = 5",
-        4,
-        "event.1.to_ms",
-    ),
-    ("# end", "[[event]]\nkind = \"drop\"", 2, "event.1.at_ms"),
-    (
-        "# end",
-        "[[event]]\nkind = \"drop\"\nat_ms = 1\nto_ms = 2",
-        3,
-        "event.1.to_ms",
-    ),
-    (
-        "# end",
-        "[[event]]\nkind = \"slope\"\nat_ms = 1\non = 0\noff = 1",
-        4,
-        "event.1.on",
-    ),
-    (
-        "# end",
-        "[[event]]\nkind = \"inhibit\"\nfrom_ms = 0\nto_ms = 14400001",
-        4,
-        "event.1.to_ms",
-    ),
-    ("# end", "[[check]]\nkind = \"area\"", 4, "check.1.kind"),
-    (
-        "# end",
-        "[[check]]\nkind = \"plates\"\ncomponent = \"a\"",
-        4,
-        "check.1.component",
-    ),
-    (
-        "# end",
-        "component = [{name = \"a\", time_ms = 1, window_ms = 1}]\ncheck = [{kind = \"resolution\", component = \"a\"}]",
-        2,
-        "check.1.other",
-    ),
-    (
-        "# end",
-        "component = [{name = \"a\", time_ms = 1, window_ms = 1}]\ncheck = [{kind = \"resolution\", component = \"a\", other = \"a\"}]",
-        4,
-        "check.1.other",
-    ),
-    (
-        "# end",
-        "component = [{name = \"a\", time_ms = 1, window_ms = 1}]\ncheck = [{kind = \"tailing\", component = \"a\", limit = 1000001}]",
-        4,
-        "check.1.limit",
-    ),
-    (
-        "# end",
-        "component = [{name = \"a\", time_ms = 1, window_ms = 1}]\ncheck = [{kind = \"r2\", component = \"a\", limit = 10001}]",
-        4,
-        "check.1.limit",
-    ),
-    (
-        "# end",
-        "component = [{name = \"a\", time_ms = 1, window_ms = 1}]\ncheck = [{kind = \"tailing\", component = \"a\", limit = 0}]",
-        4,
-        "check.1.limit",
-    ),
-    (
-        "# end",
-        "component = [{name = \"a\", time_ms = 1, window_ms = 1}]\ncheck = [{kind = \"tailing\", component = \"a\", limit = 1, other = \"a\"}]",
-        3,
-        "check.1.other",
-    ),
-    (
-        "# end",
-        "component = [{name = \"a\", time_ms = 1, window_ms = 1}]\ncheck = [{kind = \"plates\", component = \"a\", limit = 1}, 1]",
-        4,
-        "check.2",
-    ),
-    (
-        "# end",
-        "component = [{name = \"a\", time_ms = 1, window_ms = 1}, {name = \"b\", time_ms = 1, window_ms = 1}]\ncheck = [{kind = \"rsd_time\", component = \"b\"}]",
-        2,
-        "check.1.limit",
-    ),
-];
+// A line for each text that is refused: the number of the refusal; what it shows; a part of the text above; and what
+// stands in its place, where `; ` ends a line.
+const REFUSALS: &str = r#"1||bunch = 1|bunch =
+1||bunch = 1|bunch = 1; bunch = 1
+2|bunch|bunch = 1|# none
+2|bunch|bunch = 1|a = 1
+4|bunch|bunch = 1|bunch = 0
+4|bunch|bunch = 1|bunch = 65
+4|bunch|bunch = 1|bunch = 1.0
+4|slope_on|slope_on = 5|slope_on = 1000000001
+4|slope_off|slope_off = 6|slope_off = 0
+4|plateau|plateau = 3|plateau = 1001
+4|fuse|fuse = 2|fuse = -1
+4|min_area|min_area = 7|min_area = 4000000000000001
+4|min_height|min_height = 8|min_height = 200000001
+4|weight|"origin"|"none"
+4|dead_time_us|# end|dead_time_us = 0
+2|noise_from_ms|# end|noise_to_ms = "x"
+2|noise_to_ms|# end|noise_from_ms = 5
+4|noise_to_ms|# end|noise_from_ms = 5; noise_to_ms = 5
+4|rules|# end|rules = 0
+4|rules|# end|rules = 3
+3|ab|# end|z = 1; ab = 1; b = 1
+3|z|# end|z = 1; component = 1
+4|component|# end|event = 1; component = 1
+4|event|# end|check = 1; event = 1
+4|component.1|# end|component = [1]
+6|component|# end|component = [1,1,1,1,1,1,1,1,1,1,1,1,1,1,1,1,1,1,1,1,1,1,1,1,1,1,1,1,1,1,1,1,1]
+2|component.1.name|# end|component = [{}]
+4|component.1.name|# end|component = [{name = "a b"}]
+5|a|# end|component = [{name = "a", time_ms = 1, window_ms = 1}, {name = "a"}]
+4|component.1.time_ms|# end|component = [{name = "a", time_ms = 14400001, window_ms = 1}]
+2|component.1.window_ms|# end|component = [{name = "a", time_ms = 1}]
+3|component.1.x|# end|component = [{name = "a", time_ms = 1, window_ms = 1, x = 1}]
+2|event.1.kind|# end|event = [{}]
+4|event.1.kind|# end|event = [{kind = "gate"}]
+4|event.1.to_ms|# end|event = [{kind = "valley", from_ms = 5, to_ms = 5}]
+2|event.1.at_ms|# end|event = [{kind = "drop"}]
+3|event.1.to_ms|# end|event = [{kind = "drop", at_ms = 1, to_ms = 2}]
+4|event.1.on|# end|event = [{kind = "slope", at_ms = 1, on = 0, off = 1}]
+4|event.1.to_ms|# end|event = [{kind = "inhibit", from_ms = 0, to_ms = 14400001}]
+4|check.1.kind|# end|check = [{kind = "area"}]
+4|check.1.component|# end|check = [{kind = "plates", component = "a"}]
+2|check.1.other|# end|component = [{name = "a", time_ms = 1, window_ms = 1}]; check = [{kind = "resolution", component = "a"}]
+4|check.1.other|# end|component = [{name = "a", time_ms = 1, window_ms = 1}]; check = [{kind = "resolution", component = "a", other = "a"}]
+4|check.1.limit|# end|component = [{name = "a", time_ms = 1, window_ms = 1}]; check = [{kind = "tailing", component = "a", limit = 1000001}]
+4|check.1.limit|# end|component = [{name = "a", time_ms = 1, window_ms = 1}]; check = [{kind = "r2", component = "a", limit = 10001}]
+4|check.1.limit|# end|component = [{name = "a", time_ms = 1, window_ms = 1}]; check = [{kind = "tailing", component = "a", limit = 0}]
+3|check.1.other|# end|component = [{name = "a", time_ms = 1, window_ms = 1}]; check = [{kind = "tailing", component = "a", limit = 1, other = "a"}]
+4|check.2|# end|component = [{name = "a", time_ms = 1, window_ms = 1}]; check = [{kind = "plates", component = "a", limit = 1}, 1]
+2|check.1.limit|# end|component = [{name = "a", time_ms = 1, window_ms = 1}, {name = "b", time_ms = 1, window_ms = 1}]; check = [{kind = "rsd_time", component = "b"}]
+"#;
 
-fn is_refused(alloc: Global, case: &(&str, &str, u8, &str)) -> Result<bool, AllocError> {
-    let (part, instead, number, shown) = case;
-    let text = TEXT.replacen(alloc, *part, *instead, 1)?;
+// Whether the text of a line is refused as the line says.
+fn is_refused(alloc: Global, line: &str) -> Result<bool, Fail> {
+    let (number, rest) = line.split_once('|').ok_or("a line has a number")?;
+    let (shown, rest) = rest.split_once('|').ok_or("a line says what is shown")?;
+    let (part, instead) = rest.split_once('|').ok_or("a line has a part")?;
+    let instead = instead.replace(alloc, "; ", "\n")?;
+    let text = TEXT.replacen(alloc, part, instead.as_str(), 1)?;
     match Method::read_toml(alloc, text.as_bytes()) {
         Ok(_) => Ok(false),
-        Err(error) => { Ok(error.number() == Some(*number) && error.field() == shown.as_bytes()) }
+        Err(error) => {
+            let told = error.number().ok_or("memory is wanting")?;
+            Ok(number.parse() == Ok(told) && error.field() == shown.as_bytes())
+        }
     }
 }
 
 #[test]
 fn refuses_each_fault_by_number_and_path(rt: HostRuntime) -> Result<(), Fail> {
-    let cases: &[(&str, &str, u8, &str)] = &REFUSALS;
-    for case in cases {
-        let refused = is_refused(rt.alloc(), case)?;
-        assert!(rt; refused, "at {}", case.1);
+    for line in REFUSALS.lines() {
+        assert!(rt; is_refused(rt.alloc(), line)?, "at {}", line);
     }
     Ok(())
 }

@@ -1,5 +1,5 @@
 -- The numbers that a deviation reaches.
-use Rattle.std.proofs.Common.{◌≡◌, ℕ, ◌*◌, ◌<◌, ◌≤◌, true, leb, arith, inl, inr}
+use Rattle.std.proofs.Common.{ℕ, ◌*◌, ◌≤◌, arith, inl, inr}
 use Rattle.std.proofs.Math.Nat.{mul-le-mul}
 use Rattle.std.proofs.lemmas.Bool.{cases_lt, le-leb, leb-true}
 use Rattle.cds_base.specs.Search.{PassesFromBelow}

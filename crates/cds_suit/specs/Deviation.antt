@@ -29,7 +29,8 @@ is_at_least values q = nat_le (q * q * level values) (spread values * ONE_SQUARE
 
 -- what stands of values that have a deviation, or why they have none: fewer than two values, or a sum of 0
 abbrev pub if_deviates : {A : Type 0} → List ℕ → A → Result A Missing
-if_deviates values a = if nat_lt (length values) 2 then Err TooFew else (if nat_lt 0 (sum values) then Ok a else Err ZeroSum)
+if_deviates values a =
+    if nat_lt (length values) 2 then Err TooFew else (if nat_lt 0 (sum values) then Ok a else Err ZeroSum)
 
 -- whether the deviation is at most q hundredths of a percent
 abbrev pub at_most_of : List ℕ → ℕ → Result Bool Missing

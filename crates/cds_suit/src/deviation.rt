@@ -8,7 +8,7 @@ use cds_base::{AREA_LIMIT, Missing};
 /// Whether the relative standard deviation of the values is at most `q` hundredths of a percent. It is not rounded:
 /// n (n Sxx - Sx^2) 10^8 is compared with q^2 (n - 1) Sx^2. Missing: `TooFew` below two values, else `ZeroSum` where
 /// they sum to 0. It takes no memory. After USP General Chapter 621, in this project's form, over reported areas or
-/// apex times.
+/// times of peaks.
 pub fn rsd_at_most(values: &[u64], q: u32) -> Result<bool, Missing>
     requires few { length values.now ≤ MOST_VALUES }
     requires below { All (λ x. x < AREA_LIMIT) values.now }

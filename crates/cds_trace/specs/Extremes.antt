@@ -6,11 +6,13 @@ use Rattle.cds_trace.specs.Signal.{Signal, sample_at}
 
 -- no sample of the range from..to, its ends in it, is above sample i
 abbrev pub is_greatest : Signal → ℕ → ℕ → ℕ → Bool
-is_greatest signal from to i = list_all (λ k. int_le (sample_at signal k) (sample_at signal i)) (range_with_len from (to + 1 - from))
+is_greatest signal from to i =
+    list_all (λ k. int_le (sample_at signal k) (sample_at signal i)) (range_with_len from (to + 1 - from))
 
 -- no sample of the range from..to, its ends in it, is below sample i
 abbrev pub is_least : Signal → ℕ → ℕ → ℕ → Bool
-is_least signal from to i = list_all (λ k. int_le (sample_at signal i) (sample_at signal k)) (range_with_len from (to + 1 - from))
+is_least signal from to i =
+    list_all (λ k. int_le (sample_at signal i) (sample_at signal k)) (range_with_len from (to + 1 - from))
 
 -- the first greatest sample of the range from..to
 abbrev pub first_greatest : Signal → ℕ → ℕ → ℕ

@@ -31,7 +31,9 @@ digits_number bytes = if is_digits bytes then Some (digits_value 10 bytes) else 
 
 -- the number that an optional `-` and 1 to 12 digits write
 abbrev pub signed_number : List ℕ → Option ℤ
-signed_number bytes = if starts_with_minus bytes then option_map (λ n. neg_ℤ (pos n)) (digits_number (drop 1 bytes)) else option_map pos (digits_number bytes)
+signed_number bytes =
+    if starts_with_minus bytes then option_map (λ n. neg_ℤ (pos n)) (digits_number (drop 1 bytes))
+    else option_map pos (digits_number bytes)
 
 -- the number that a field writes between the blanks at its ends, if it writes one
 unfoldable pub number_of : List ℕ → Option ℤ

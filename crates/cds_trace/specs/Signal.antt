@@ -28,7 +28,7 @@ pub record IsSample (sample : ℤ) : Type 0 where
 
 -- a signal that keeps the limits of a trace
 pub record IsTrace (signal : Signal) : Type 0 where
-  -- it has at least 2 samples, and at most 100,000
+  -- it has at least 2 samples, and at most 400,000
   pub enough : FEWEST_SAMPLES ≤ length signal.samples
   pub few : length signal.samples ≤ MOST_SAMPLES
   -- each sample is in its range

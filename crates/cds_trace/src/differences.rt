@@ -10,7 +10,7 @@ use cds_base::Bytes;
 use std::alloc::AllocError;
 
 /// A byte holds 7 bits of a number, which is less than this; the high bit, of this value, says that more bytes follow.
-pub(crate) const SEVEN_BITS: u64 = 128;
+pub const SEVEN_BITS: u64 = 128;
 
 /// The bytes before the differences: the number of samples and the first one.
 const BYTES_OF_FRONT: usize = 8;

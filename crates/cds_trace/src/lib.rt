@@ -12,14 +12,17 @@ mod laws;
 mod lines;
 mod number;
 mod read;
+mod spans;
 mod trace;
 mod write;
 
+pub use differences::SEVEN_BITS;
 pub use error::TraceError;
 pub use extremes::{Top, first_greatest};
 pub use laws::the_limits;
 pub use lines::{chord, height_by_span, level_by_span};
 pub use number::MOST_DIGITS;
+pub use spans::span;
 pub use trace::{FEWEST_SAMPLES, GREATEST_SAMPLE, MOST_SAMPLES, Trace};
 
 #[cfg(test)]

@@ -85,7 +85,8 @@ fn read_samples(
 fn next_row(reader: &mut Reader<&[u8]>, row: &mut ByteRecord) -> Result<bool, TraceError>
     requires { IsReading reader.old }
     ensures reading { IfOk result (λ found. found ≡ true → IsReading reader.new) }
-    ensures found { IfOk result (λ found. found ≡ true → rows_left reader.old ≡ fields_of row.new ∷ rows_left reader.new) }
+    ensures found { IfOk result
+        (λ found. found ≡ true → rows_left reader.old ≡ fields_of row.new ∷ rows_left reader.new) }
     ensures ended { IfOk result (λ found. found ≡ false → rows_left reader.old ≡ []) }
     ensures wanting { IfErr result (λ e. e ≡ NoMemory) }
 {

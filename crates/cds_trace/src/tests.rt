@@ -89,7 +89,7 @@ fn given_samples_are_kept_or_refused(rt: HostRuntime) -> Result<(), Fail> {
 }
 
 #[test]
-fn a_trace_is_written_copied_and_recorded(rt: HostRuntime) -> Result<(), Fail> {
+fn a_trace_is_written_and_copied(rt: HostRuntime) -> Result<(), Fail> {
     let alloc = rt.alloc();
     let trace = Trace::from_samples(alloc, 7, &[1, 20, -300, 4])?;
     let text = trace.write_csv()?;
@@ -100,9 +100,6 @@ fn a_trace_is_written_copied_and_recorded(rt: HostRuntime) -> Result<(), Fail> {
     assert!(rt; trace.copy()?.same(&trace));
     let other = Trace::from_samples(alloc, 7, &[1, 20, -300, 5])?;
     assert!(rt; !other.same(&trace));
-    let bytes = trace.record_samples()?;
-    let want = b"\0\0\0\x04\0\0\0\x01\0\0\0\x14\xff\xff\xfe\xd4\0\0\0\x04".as_slice();
-    assert_eq!(rt; bytes.as_slice(), want);
     Ok(())
 }
 

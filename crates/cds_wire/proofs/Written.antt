@@ -6,7 +6,7 @@ use Rattle.json.specs.Print.{escape, escape_byte}
 use Rattle.serde_json.specs.Data.{object}
 use Rattle.serde_json.specs.Written.{has_float}
 use Rattle.cds_wire.specs.declared.answer.Answer.{Answer}
-use Rattle.cds_wire.specs.declared.answer.Answer.TheVariants.{Trace, Draft, Freeze, Refusal}
+use Rattle.cds_wire.specs.declared.answer.Answer.TheVariants.{Trace, Draft, Freeze, Sequence, Sign, Refusal}
 use Rattle.cds_wire.specs.declared.answer.Shown.TheVariants.{Number, Word}
 use Rattle.cds_wire.specs.Reply.{fields_of, reply_text, is_plain_word}
 
@@ -15,6 +15,8 @@ pub has_float-fields_of : (answer : Answer) → has_float (object (fields_of ans
 has_float-fields_of (Trace samples unchanged version) = refl
 has_float-fields_of (Draft unchanged) = refl
 has_float-fields_of (Freeze unchanged version) = refl
+has_float-fields_of (Sequence basis edition unchanged) = refl
+has_float-fields_of (Sign basis n signed unchanged) = refl
 has_float-fields_of (Refusal error n (Number v)) = refl
 has_float-fields_of (Refusal error n (Word w)) = refl
 

@@ -4,7 +4,7 @@ use Rattle.std.specs.List.{list_all}
 use Rattle.serde_json.specs.Data.{Data, number, unsigned, boolean, string, object, Members, member, no_members}
 use Rattle.serde_json.specs.Written.{compact_text}
 use Rattle.cds_wire.specs.declared.answer.Answer.{Answer}
-use Rattle.cds_wire.specs.declared.answer.Answer.TheVariants.{Trace, Draft, Freeze, Refusal}
+use Rattle.cds_wire.specs.declared.answer.Answer.TheVariants.{Trace, Draft, Freeze, Sequence, Sign, Refusal}
 use Rattle.cds_wire.specs.declared.answer.Shown.{Shown}
 use Rattle.cds_wire.specs.declared.answer.Shown.TheVariants.{Number, Word}
 
@@ -24,6 +24,10 @@ fields_of (Trace samples unchanged version) =
 fields_of (Draft unchanged) = member (codes "unchanged") (boolean unchanged) no_members
 fields_of (Freeze unchanged version) =
     member (codes "unchanged") (boolean unchanged) (member (codes "version") (count version) no_members)
+fields_of (Sequence basis edition unchanged) =
+    member (codes "basis") (count basis) (member (codes "edition") (count edition) (member (codes "unchanged") (boolean unchanged) no_members))
+fields_of (Sign basis n signed unchanged) =
+    member (codes "basis") (count basis) (member (codes "number") (count n) (member (codes "signed") (string signed) (member (codes "unchanged") (boolean unchanged) no_members)))
 fields_of (Refusal error n value) =
     member (codes "error") (string error) (member (codes "number") (count n) (member (codes "value") (shown_value value) no_members))
 

@@ -19,6 +19,20 @@ pub enum Answer {
         unchanged: bool,
         version: u32,
     },
+    /// A sequence was put or changed: its basis and its edition as they are now, and whether nothing changed.
+    Sequence {
+        basis: u64,
+        edition: u64,
+        unchanged: bool,
+    },
+    /// The results of a sequence were signed: the basis and the number of the signature, when it was signed, as the date
+    /// of an HTTP message, and whether nothing changed.
+    Sign {
+        basis: u64,
+        number: u32,
+        signed: Text,
+        unchanged: bool,
+    },
     /// A refusal: its word, its number, and what it shows.
     Refusal {
         error: Text,

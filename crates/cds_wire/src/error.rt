@@ -1,8 +1,10 @@
 //! The refusals of a request's body.
 ghost use Rattle.std.specs.Prelude.{◌≡◌};
+ghost use Rattle.cds_wire.specs.declared.error.BodyError.TheVariants.{NoMemory};
 
 use cds_base::Text;
 use cds_fields::Refusal;
+use std::alloc::{AllocError, AllocFailed};
 use thiserror::Error;
 
 /// Why a request's body states nothing.
@@ -42,6 +44,22 @@ impl Refusal for BodyError {
     }
 
     fn no_memory() -> BodyError {
+        BodyError::NoMemory
+    }
+}
+
+impl From<AllocError> for BodyError {
+    ghost from_gives = { λ _ e. e ≡ NoMemory };
+
+    fn from(_failed: AllocError) -> BodyError {
+        BodyError::NoMemory
+    }
+}
+
+impl<T: Drop> From<AllocFailed<T>> for BodyError {
+    ghost from_gives = { λ _ e. e ≡ NoMemory };
+
+    fn from(_failed: AllocFailed<T>) -> BodyError {
         BodyError::NoMemory
     }
 }

@@ -34,6 +34,20 @@ fn value_of(alloc: Global, answer: &Answer) -> Result<Value, AllocError>
         Answer::Freeze { unchanged, version } => {
             json!(in alloc; {"unchanged": *unchanged, "version": *version})
         }
+        Answer::Sequence {
+            basis,
+            edition,
+            unchanged,
+        } => { json!(in alloc; {"basis": *basis, "edition": *edition, "unchanged": *unchanged}) }
+        Answer::Sign {
+            basis,
+            number,
+            signed,
+            unchanged,
+        } => {
+            let signed = signed.as_str();
+            json!(in alloc; {"basis": *basis, "number": *number, "signed": signed, "unchanged": *unchanged})
+        }
         Answer::Refusal {
             error,
             number,

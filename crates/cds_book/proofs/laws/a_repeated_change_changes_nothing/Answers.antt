@@ -1,4 +1,4 @@
-use Rattle.cds_book.proofs.PlanLaws.{planned-again}
+use Rattle.cds_book.proofs.AgainLaws.{planned-again}
 use Rattle.cds_book.proofs.laws.a_repeated_change_changes_nothing.Goals as goal
 
 pub returns : goal.returns

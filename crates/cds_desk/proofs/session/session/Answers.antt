@@ -1,25 +1,67 @@
-use Rattle.std.proofs.Common.{◌∙◌, [], Err, ap}
+use Rattle.std.proofs.Common.{◌≡◌, ◌∙◌, Err, sym, ap, rules}
 use Rattle.cds_desk.specs.Serving.{reading}
-use Rattle.cds_desk.proofs.SessionLaws.{served_until, damage_found}
+use Rattle.cds_desk.proofs.SessionLaws.{served_until, damage_found, finds_loaded, finds_again, unserved_for_memory, not_for_keeper, not_for_damage, no_error}
+use Rattle.cds_desk.proofs.TurnLaws.{at_most}
 use Rattle.cds_desk.proofs.session.session.Goals as goal
 
-pub returns-in-Err-Damaged-clause-damaged : goal.returns-in-Err-Damaged-clause-damaged
-returns-in-Err-Damaged-clause-damaged g c = λ is.
+pub returns-in-Err-Damaged-clause-ran : goal.returns-in-Err-Damaged-clause-ran
+returns-in-Err-Damaged-clause-ran g c =
     let found = c.load.ensures.damage c.in-Err-Damaged.number (c.in-Err-Damaged.is ∙ ap Err c.in-Err-Damaged.field-0-is) in
     let sent = rw c.in-Err-Damaged.number-is at c.tell_damage.ensures.sent in
-    (c.in-Err-Damaged.number, damage_found _ _ found, sent)
+    record {
+      is_command = search rules;
+      served = search rules;
+      unserved = λ _. record {
+        stores_nothing = search rules;
+        loads_once = search rules;
+        reads_nothing = search rules;
+        count_stays = search rules;
+        keeper_failed = search rules;
+        damaged = λ _. (c.in-Err-Damaged.number, damage_found _ _ found, sent);
+      };
+      damaged_only = search rules;
+      failed_write = search rules;
+      keeper_counts = search rules;
+    }
 
-pub returns-clause-served : goal.returns-clause-served
-returns-clause-served g c = λ is. (
-  c.serve_connection-ended.result,
-  c.status_of.ensures,
-  served_until c.serve_connection-ended.result (g.K.Keeper.finds c.args.keeper.now []) (g.K.Keeper.finds c.serve_connection-ended.new.keeper [])
-      c.in-Ok.records c.in-Ok-open.desk c.serve_connection-ended.new.self
-      (g.W.Sink.written c.args.sink.now) (g.W.Sink.written c.serve_connection-ended.new.sink)
-      (g.K.Keeper.content c.load.new.self) (g.K.Keeper.content c.args.keeper.now) (g.K.Keeper.content c.serve_connection-ended.new.keeper)
-      (g.K.Keeper.faults c.args.keeper.now) (g.K.Keeper.faults c.load.new.self) (g.K.Keeper.faults c.serve_connection-ended.new.keeper)
-      (reading (g.S.Source.given c.args.source.now) (g.S.Source.left c.args.source.now))
-      (reading (g.S.Source.given c.serve_connection-ended.new.source) (g.S.Source.left c.serve_connection-ended.new.source))
-      c.in-Ok.ensures.found c.in-Ok.ensures.holds c.in-Ok-open.ensures.opens (c.in-Ok.ensures.count_stays (λ e. cc))
-      c.serve_connection-ended.ensures.ends,
-)
+pub returns-clause-ran : goal.returns-clause-ran
+returns-clause-ran g c =
+    let e = c.serve_connection-ended.result in
+    let count : (g.K.Keeper.told c.load.new.self).faults ≡ (g.K.Keeper.told c.args.keeper.now).faults = c.in-Ok.ensures.count_stays (no_error _ _) in
+    record {
+      is_command = search rules;
+      served = λ _. record {
+        served = (
+          c.serve_connection-ended.result,
+          c.status_of.ensures,
+          served_until c.serve_connection-ended.result (g.K.Keeper.finds c.args.keeper.now c.args.store.now) (g.K.Keeper.finds c.serve_connection-ended.new.keeper c.args.store.now)
+              (g.K.Keeper.told c.args.keeper.now) (g.K.Keeper.told c.load.new.self) (g.K.Keeper.told c.serve_connection-ended.new.keeper)
+              c.in-Ok.records c.in-Ok-open.desk c.serve_connection-ended.new.self
+              (g.W.Sink.told c.args.sink.now).written (g.W.Sink.told c.serve_connection-ended.new.sink).written
+              (reading (g.S.Source.told c.args.source.now).given (g.S.Source.told c.args.source.now).left)
+              (reading (g.S.Source.told c.serve_connection-ended.new.source).given (g.S.Source.told c.serve_connection-ended.new.source).left)
+              c.in-Ok.ensures.found c.in-Ok.ensures.holds c.in-Ok.ensures.opened count c.in-Ok.ensures.called c.in-Ok-open.ensures.opens
+              c.serve_connection-ended.ensures.ends,
+        );
+        stays_open = search rules;
+        finds_more = λ name.
+            (c.serve_connection-ended.ensures.finds name).more (at_most _ _ (finds_loaded _ _ _ (c.in-Ok.ensures.finds_list name) c.in-Ok.ensures.holds));
+        finds_exactly = λ same below name.
+            (c.serve_connection-ended.ensures.finds name).exactly (same ∙ sym count) below
+            (finds_loaded _ _ _ (c.in-Ok.ensures.finds_list name) c.in-Ok.ensures.holds);
+      };
+      unserved = λ is.
+          let same = c.serve_connection-ended.ensures.no_memory (unserved_for_memory e (rw c.status_of.ensures at is)) in
+          record {
+            stores_nothing = ap (λ k. g.K.Keeper.finds k c.args.store.now) same.3
+                ∙ finds_again _ _ _ _ c.in-Ok.ensures.found (c.in-Ok.ensures.finds_list c.args.store.now) (c.load.ensures.tells_finds c.args.store.now);
+            loads_once = ap (λ k. (g.K.Keeper.told k).calls) same.3 ∙ c.in-Ok.ensures.called;
+            reads_nothing = same.1;
+            count_stays = λ _. ap (λ k. (g.K.Keeper.told k).faults) same.3 ∙ count;
+            keeper_failed = λ f. absurd (not_for_keeper e (sym c.status_of.ensures ∙ f));
+            damaged = λ f. absurd (not_for_damage e (sym c.status_of.ensures ∙ f));
+          };
+      damaged_only = search rules;
+      failed_write = search rules;
+      keeper_counts = search rules;
+    }

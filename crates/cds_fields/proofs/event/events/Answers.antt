@@ -1,7 +1,7 @@
 use Rattle.std.proofs.Common.{◌≡◌, true, ⊎_elim, inl, inr}
 use Rattle.std.proofs.lemmas.List.Elements.{All-push}
 use Rattle.std.proofs.lemmas.Result.{err_from_is_err_and}
-use Rattle.cds_fields.specs.Event.{is_event}
+use Rattle.cds_base.specs.EventRange.{is_event}
 use Rattle.cds_fields.proofs.Judging.{judged_err, judged_more, judged_all}
 use Rattle.cds_fields.proofs.event.events.Goals as goal
 

@@ -1,5 +1,6 @@
 use Rattle.std.specs.List.{AllPass}
-use Rattle.cds_fields.specs.Event.{is_event, event_of}
+use Rattle.cds_base.specs.EventRange.{is_event}
+use Rattle.cds_fields.specs.Event.{event_of}
 use Rattle.cds_fields.specs.Seen.{list_seen}
 use Rattle.cds_fields.proofs.Judging.{Judged}
 use Rattle.cds_fields.proofs.event.events.Given as goal

@@ -1,8 +1,8 @@
 use Rattle.std.proofs.Common.{◌<◌, List, length, sym, arith}
 use Rattle.std.specs.List.{flat_map}
 use Rattle.cds_base.specs.declared.cluster.Cluster.{Cluster}
-use Rattle.cds_rules.specs.Fields.{fields_of}
-use Rattle.cds_integrate.specs.Row.{events_of, found_in}
+use Rattle.cds_rules.specs.Fields.{fields_of, row_events}
+use Rattle.cds_integrate.specs.Row.{found_in}
 use Rattle.cds_integrate.specs.Peaks.{Found}
 use Rattle.cds_integrate.proofs.FoundLaws.{cluster-anywhere, clusters-at, flat-on}
 use Rattle.cds_integrate.proofs.rows.found_of.Goals as goal
@@ -25,7 +25,7 @@ loop-cluster-preserved g c =
     let below : i < length clusters = c.loop-cluster-test.true in
     let here = rw (sym c.cluster-item.is) at (clusters-at signal clusters cluster i kept.at.0 below kept.at.1) in
     let f : Cluster → List Found =
-    found_in signal (fields_of c.args.method.now) (events_of (fields_of c.args.method.now) c.args.manual.now) in
+    found_in signal (fields_of c.args.method.now) (row_events (fields_of c.args.method.now) c.args.manual.now) in
     let old : List Found = c.loop-cluster.found.items in
     record {
       items = rw c.in_ok-add_found.ensures.value (flat-on f clusters cluster i old

@@ -3,9 +3,9 @@ use Rattle.std.specs.List.{flat_map}
 use Rattle.cds_base.specs.declared.cluster.Cluster.{Cluster}
 use Rattle.cds_base.specs.declared.event.Event.{Event}
 use Rattle.cds_base.specs.declared.peak.RawPeak.{RawPeak}
-use Rattle.cds_events.specs.Arrangement.{gap_of, clusters_of}
-use Rattle.cds_rules.specs.Fields.{fields_of}
-use Rattle.cds_integrate.specs.Row.{events_of, found_in, found_of, windows_of}
+use Rattle.cds_events.specs.Arrangement.{clusters_under}
+use Rattle.cds_rules.specs.Fields.{fields_of, row_events}
+use Rattle.cds_integrate.specs.Row.{found_in, found_of, windows_of}
 use Rattle.cds_integrate.specs.Peaks.{Found, time_of}
 use Rattle.cds_integrate.proofs.FoundLaws.{found-count}
 use Rattle.cds_integrate.proofs.PeakLaws.{peaks-count}
@@ -16,8 +16,8 @@ returns-clause-value g c =
     let signal = c.args.trace.now in
     let fields = fields_of c.args.method.now in
     let manual : List Event = c.args.manual.now in
-    let f : Cluster → List Found = found_in signal fields (events_of fields manual) in
-    let arranged : List RawPeak → List Cluster = clusters_of signal (gap_of fields) (events_of fields manual) in
+    let f : Cluster → List Found = found_in signal fields (row_events fields manual) in
+    let arranged : List RawPeak → List Cluster = clusters_under signal fields manual in
     let clusters = c.as_slice-clusters.ensures ∙ (c.in_ok-arranged.ensures.value ∙ ap arranged c.requires.raw) in
     let found : c.as_slice-found.result.now ≡ found_of signal fields manual =
     c.as_slice-found.ensures.value ∙ (c.in_ok-parts.ensures.value ∙ ap (flat_map f) clusters) in
@@ -31,8 +31,8 @@ returns-clause-value g c =
       peaks_are = rw found at c.in_ok-peaks.ensures.value;
     }
 
-pub name_peaks-requires-clause-few_apexes : goal.name_peaks-requires-clause-few_apexes
-name_peaks-requires-clause-few_apexes g c =
+pub name_peaks-requires-clause-few_times : goal.name_peaks-requires-clause-few_times
+name_peaks-requires-clause-few_times g c =
     let many = found-count c.args.trace.now (fields_of c.args.method.now) c.in_ok-parts.parts.items
     c.in_ok-parts.ensures.kept in
     let size : length c.as_slice-found.result.now ≡ length c.in_ok-parts.parts.items =

@@ -1,11 +1,10 @@
-use Rattle.std.proofs.Common.{◌≡◌, ◌++◌, List, All, map, ap, subst, ◌∙◌, arith}
+use Rattle.std.proofs.Common.{List, All, subst, ◌∙◌, arith}
 use Rattle.cds_base.specs.declared.event.Event.{Event}
-use Rattle.cds_baseline.specs.Cluster.{cluster_nodes}
-use Rattle.cds_rules.specs.Fields.{fields_of}
-use Rattle.cds_integrate.specs.Shapes.{is_covered, nodes_of, shape_of}
+use Rattle.cds_rules.specs.Fields.{fields_of, row_events}
+use Rattle.cds_integrate.specs.Shapes.{nodes_of}
 use Rattle.cds_integrate.specs.Standing.{IsShape}
 use Rattle.cds_integrate.proofs.PartLaws.{part-within, tiles-count, tiles-order}
-use Rattle.cds_integrate.proofs.ShapeLaws.{cluster-next, cluster-over, row-of}
+use Rattle.cds_integrate.proofs.ShapeLaws.{cluster-next, cluster-over, nodes-are, row-of, shapes-are}
 use Rattle.cds_integrate.proofs.shapes.shapes_of.Goals as goal
 
 pub covered_marks-requires : goal.covered_marks-requires
@@ -32,38 +31,28 @@ pub shapes_over-requires : goal.shapes_over-requires
 shapes_over-requires g c =
     let signal = c.args.trace.now in
     let cluster = c.args.cluster.now in
-    let events : List Event = (fields_of c.args.method.now).events ++ c.args.manual.now in
-    let marks = c.deref.ensures.value ∙ (c.in_ok-covered.ensures.marks ∙ ap
-    (map (is_covered signal events)) c.as_slice-parts.ensures) in
-    let bends : c.as_slice-bends.result.now ≡ nodes_of signal events cluster =
-    c.as_slice-bends.ensures ∙ (c.in_ok-baseline.ensures.nodes ∙ ap (cluster_nodes signal cluster) marks) in
+    let events : List Event = row_events (fields_of c.args.method.now) c.args.manual.now in
+    let bends = nodes-are signal events cluster _ _ _ c.as_slice-parts.ensures
+    (c.deref.ensures.value ∙ c.in_ok-covered.ensures.marks) (c.as_slice-bends.ensures ∙ c.in_ok-baseline.ensures.nodes) in
     rw (c.as_slice-parts.ensures, bends) (cluster-over signal events cluster c.requires)
 
 pub returns-clause-value : goal.returns-clause-value
 returns-clause-value g c =
     let signal = c.args.trace.now in
     let cluster = c.args.cluster.now in
-    let events : List Event = (fields_of c.args.method.now).events ++ c.args.manual.now in
-    let marks = c.deref.ensures.value ∙ (c.in_ok-covered.ensures.marks ∙ ap
-    (map (is_covered signal events)) c.as_slice-parts.ensures) in
-    let bends : c.as_slice-bends.result.now ≡ nodes_of signal events cluster =
-    c.as_slice-bends.ensures ∙ (c.in_ok-baseline.ensures.nodes ∙ ap (cluster_nodes signal cluster) marks) in
-    c.in_ok-shapes.ensures.value ∙ (ap (λ nodes. map (shape_of signal events nodes) c.as_slice-parts.result.now) bends
-    ∙ ap (map (shape_of signal events (nodes_of signal events cluster))) c.as_slice-parts.ensures)
+    let events : List Event = row_events (fields_of c.args.method.now) c.args.manual.now in
+    let bends = nodes-are signal events cluster _ _ _ c.as_slice-parts.ensures
+    (c.deref.ensures.value ∙ c.in_ok-covered.ensures.marks) (c.as_slice-bends.ensures ∙ c.in_ok-baseline.ensures.nodes) in
+    shapes-are signal events cluster _ _ _ c.as_slice-parts.ensures bends c.in_ok-shapes.ensures.value
 
 pub returns-clause-row : goal.returns-clause-row
 returns-clause-row g c =
     let signal = c.args.trace.now in
     let cluster = c.args.cluster.now in
-    let events : List Event = (fields_of c.args.method.now).events ++ c.args.manual.now in
-    let marks = c.deref.ensures.value ∙ (c.in_ok-covered.ensures.marks ∙ ap
-    (map (is_covered signal events)) c.as_slice-parts.ensures) in
-    let bends : c.as_slice-bends.result.now ≡ nodes_of signal events cluster =
-    c.as_slice-bends.ensures ∙ (c.in_ok-baseline.ensures.nodes ∙ ap (cluster_nodes signal cluster) marks) in
-    let value : c.in_ok-shapes.shapes.items ≡ map (shape_of signal events
-    (nodes_of signal events cluster)) cluster.parts = c.in_ok-shapes.ensures.value ∙ (ap
-    (λ nodes. map (shape_of signal events nodes) c.as_slice-parts.result.now) bends ∙ ap
-    (map (shape_of signal events (nodes_of signal events cluster))) c.as_slice-parts.ensures) in
+    let events : List Event = row_events (fields_of c.args.method.now) c.args.manual.now in
+    let bends = nodes-are signal events cluster _ _ _ c.as_slice-parts.ensures
+    (c.deref.ensures.value ∙ c.in_ok-covered.ensures.marks) (c.as_slice-bends.ensures ∙ c.in_ok-baseline.ensures.nodes) in
+    let value = shapes-are signal events cluster _ _ _ c.as_slice-parts.ensures bends c.in_ok-shapes.ensures.value in
     rw value (row-of signal events (nodes_of signal events cluster) cluster.parts cluster.end
     (cluster-next signal events cluster c.requires)
     cluster.start cluster.parts c.requires.tiled (λ n h. h) (subst

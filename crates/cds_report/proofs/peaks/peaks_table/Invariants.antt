@@ -1,4 +1,4 @@
-use Rattle.std.proofs.Common.{◌≡◌, ◌≤◌, ◌++◌, ◌+◌, drop, length}
+use Rattle.std.proofs.Common.{◌≡◌, ◌++◌, ◌+◌, drop}
 use Rattle.std.specs.String.{string_bytes}
 use Rattle.cds_report.specs.PeaksText.{peaks_table, peak_lines}
 use Rattle.cds_report.proofs.peaks.peaks_table.Given as goal

@@ -2,10 +2,10 @@ use Rattle.std.proofs.Common.{refl, sym, arith}
 use Rattle.std.specs.Vec.{with_item}
 use Rattle.cds_book.specs.Held.{HeldMethod, state_held}
 use Rattle.cds_book.specs.Tables.{texts_of}
-use Rattle.cds_book.specs.declared.command.Change.TheVariants as change
+use Rattle.cds_sign.specs.declared.command.Change.TheVariants as change
 use Rattle.cds_book.specs.declared.tables.Tables.TheInside.{Inside}
 use Rattle.cds_book.proofs.HeldLaws.{room-draft, room-method, PutsMethod, PutsMethod-new, puts_entry, texts_of-read, view-PutsMethod, IsHeld-PutsMethod, Accepts-held}
-use Rattle.cds_book.proofs.MethodLaws.{applied-draft, IsTables-draft}
+use Rattle.cds_book.proofs.AppliedLaws.{applied-draft, IsTables-applied_draft}
 use Rattle.cds_book.proofs.tables.Tables.put_draft.Goals as goal
 
 -- the method is there: its draft is replaced
@@ -36,14 +36,14 @@ pub invariant_of-self : goal.invariant_of-self
 unfolding with_draft
 invariant_of-self c =
     let t = state_held c.self.inside in
-    IsHeld-PutsMethod c.self.inside (with_draft c) _ c.self.view_is c.args.name c.args.text (texts_of t c.args.name) 0 (puts_there c) (change.Draft c.args.name c.args.text) (applied-draft t c.args.name c.args.text) c.self.invariant
-    (IsTables-draft t c.args.name c.args.text c.self.invariant.tables (Accepts-held c.self.inside _ _ c.self.view_is c.requires.accepted))
+    IsHeld-PutsMethod c.self.inside (with_draft c) _ c.self.view_is c.args.name c.args.text (texts_of t c.args.name) 0 (puts_there c) (change.Draft c.args.name c.args.text) t.sequences refl (applied-draft t c.args.name c.args.text) c.self.invariant
+    (IsTables-applied_draft t c.args.name c.args.text c.self.invariant.tables (Accepts-held c.self.inside _ _ c.self.view_is c.requires.accepted))
 
 pub returns-in-Some-Draft : goal.returns-in-Some-Draft
 unfolding with_draft
 returns-in-Some-Draft c =
     let t = state_held c.self.inside in
-    view-PutsMethod c.self.inside (with_draft c) _ c.self.view_is c.args.name c.args.text (texts_of t c.args.name) 0 (puts_there c) (change.Draft c.args.name c.args.text) (applied-draft t c.args.name c.args.text)
+    view-PutsMethod c.self.inside (with_draft c) _ c.self.view_is c.args.name c.args.text (texts_of t c.args.name) 0 (puts_there c) (change.Draft c.args.name c.args.text) t.sequences refl (applied-draft t c.args.name c.args.text)
 
 -- the method is new: it has no versions
 pub invariant_of-self-in-Some-Method : goal.invariant_of-self-in-Some-Method
@@ -53,8 +53,8 @@ invariant_of-self-in-Some-Method c =
     let t = state_held a in
     let gap = room-method a c.args.self.now c.args.name _ _ _ c.self.view_is c.self.invariant c.requires.room c.in-Some-Method.ensures.value c.in-Some-Method.field-0-is in
     let puts = PutsMethod-new a b c.args.name _ (record { draft = c.args.text; versions = c.new.result }) c.args.text gap refl c.new.ensures.items c.put.ensures.value refl refl refl refl c.take.ensures.after in
-    IsHeld-PutsMethod a b _ c.self.view_is c.args.name c.args.text (texts_of t c.args.name) 0 puts (change.Draft c.args.name c.args.text) (applied-draft t c.args.name c.args.text) c.self.invariant
-    (IsTables-draft t c.args.name c.args.text c.self.invariant.tables (Accepts-held a _ _ c.self.view_is c.requires.accepted))
+    IsHeld-PutsMethod a b _ c.self.view_is c.args.name c.args.text (texts_of t c.args.name) 0 puts (change.Draft c.args.name c.args.text) t.sequences refl (applied-draft t c.args.name c.args.text) c.self.invariant
+    (IsTables-applied_draft t c.args.name c.args.text c.self.invariant.tables (Accepts-held a _ _ c.self.view_is c.requires.accepted))
 
 pub returns-in-Some-Method : goal.returns-in-Some-Method
 returns-in-Some-Method c =
@@ -63,4 +63,4 @@ returns-in-Some-Method c =
     let t = state_held a in
     let gap = room-method a c.args.self.now c.args.name _ _ _ c.self.view_is c.self.invariant c.requires.room c.in-Some-Method.ensures.value c.in-Some-Method.field-0-is in
     let puts = PutsMethod-new a b c.args.name _ (record { draft = c.args.text; versions = c.new.result }) c.args.text gap refl c.new.ensures.items c.put.ensures.value refl refl refl refl c.take.ensures.after in
-    view-PutsMethod a b _ c.self.view_is c.args.name c.args.text (texts_of t c.args.name) 0 puts (change.Draft c.args.name c.args.text) (applied-draft t c.args.name c.args.text)
+    view-PutsMethod a b _ c.self.view_is c.args.name c.args.text (texts_of t c.args.name) 0 puts (change.Draft c.args.name c.args.text) t.sequences refl (applied-draft t c.args.name c.args.text)

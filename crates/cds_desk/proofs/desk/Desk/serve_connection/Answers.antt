@@ -2,14 +2,15 @@ use Rattle.std.proofs.Common.{◌≡◌, ◌∙◌, ◌<◌, false, [], length, 
 use Rattle.cds_http.specs.Items.{continue, fault}
 use Rattle.cds_http.specs.Stream.{Stream, fault_in, request_in, dropped, AddsRequest}
 use Rattle.cds_http.proofs.SizeLemmas.{request_some}
-use Rattle.cds_desk.specs.Service.{fault_text}
-use Rattle.cds_desk.specs.Response.{continue_text}
-use Rattle.cds_desk.proofs.ServingLaws.{so_far_nothing, so_far_end, so_far_read, done_at_end, refused_at, unread_at, broken_at, broken_at_end, item_written, item_broken, more_step, continue_step, request_step, close_step, broken_step, after_read, ends_by, after_request, bounded_by, measure_less, of_some}
+use Rattle.cds_respond.specs.Fixed.{fault_text}
+use Rattle.cds_respond.specs.Response.{continue_text}
+use Rattle.cds_desk.proofs.ServingLaws.{so_far_nothing, so_far_end, so_far_read, done_at_end, refused_at, unread_at, broken_at, broken_at_end, item_written, item_broken, more_step, continue_step, request_step, close_step, broken_step, after_read, ends_by, after_request, bounded_by, measure_less, of_some, finds_then}
 use Rattle.cds_desk.proofs.desk.Desk.serve_connection.Goals as goal
 
 pub loop-source-init : goal.loop-source-init
 loop-source-init g c = record {
   so_far = rw c.in-Ok.ensures (so_far_nothing _ _);
+  finds = λ name. record { more = λ was. was; exactly = λ _ _ was. was };
   opened = c.requires;
   no_fault = rw c.in-Ok.ensures refl;
   not_closed = rw c.in-Ok.ensures refl;
@@ -17,7 +18,8 @@ loop-source-init g c = record {
   total = rw c.in-Ok.ensures (omega arith);
   bounded = rw c.in-Ok.ensures (λ some. absurd (omega (arith, some)));
   source_kept = refl;
-  sink_counts = omega arith;
+  sink_kept = refl;
+  clock_stays = refl;
   keeper_counts = omega arith;
 }
 
@@ -44,6 +46,7 @@ loop-source-preserved-in-Ok-ask g c =
     let bytes = ap (λ (s : Stream). length s.bytes) after in
     record {
       so_far = so_far_read _ _ _ _ _ _ _ _ more c.in-Ok-ask.ensures.read some;
+      finds = i.finds;
       opened = i.opened;
       no_fault = stands.3;
       not_closed = stands.2 ∙ ap (λ (s : Stream). s.closed) after ∙ i.not_closed;
@@ -51,7 +54,8 @@ loop-source-preserved-in-Ok-ask g c =
       total = omega (arith, i.total, c.in-Ok-ask.ensures.nears, stands.0, stands.1, place, bytes);
       bounded = λ _. bounded_by _ _ _ i.total c.in-Ok-ask.ensures.bounded i.bounded;
       source_kept = c.in-Ok-ask.ensures.kept ∙ i.source_kept;
-      sink_counts = i.sink_counts;
+      sink_kept = i.sink_kept;
+      clock_stays = i.clock_stays;
       keeper_counts = i.keeper_counts;
     }
 
@@ -59,15 +63,15 @@ pub returns-in-Err-clause-ends : goal.returns-in-Err-clause-ends
 returns-in-Err-clause-ends g c =
     rw (c.in-Err.ensures.given_stays, c.in-Err.ensures.left_stays) (unread_at _ _ _ _ _ c.loop-source.invariant.so_far (c.in-More.ensures.item c.loop-source.invariant.no_fault))
 
-pub loop-source-preserved-in-Ok-send : goal.loop-source-preserved-in-Ok-send
-loop-source-preserved-in-Ok-send g c =
+pub loop-source-preserved-in-Ok-send_fixed : goal.loop-source-preserved-in-Ok-send_fixed
+loop-source-preserved-in-Ok-send_fixed g c =
     let i = c.loop-source.invariant in
     let after = c.in-Continue.ensures.after in
     let place = ap (λ (s : Stream). s.place) after in
     let bytes = ap (λ (s : Stream). length s.bytes) after in
-    let text = rw c.continue_text.ensures at c.in-Ok-send.ensures.whole in
     record {
-      so_far = continue_step _ _ _ _ _ _ _ after (c.in-Continue.ensures.item i.no_fault) (c.in-Continue.ensures.items i.no_fault) i.so_far (item_written _ continue continue_text _ refl text);
+      so_far = continue_step _ _ _ _ _ _ _ after (c.in-Continue.ensures.item i.no_fault) (c.in-Continue.ensures.items i.no_fault) i.so_far (item_written _ continue continue_text _ refl c.in-Ok-send_fixed.ensures.whole);
+      finds = i.finds;
       opened = i.opened;
       no_fault = ap (λ (s : Stream). fault_in s.last) after;
       not_closed = ap (λ (s : Stream). s.closed) after ∙ i.not_closed;
@@ -75,15 +79,15 @@ loop-source-preserved-in-Ok-send g c =
       total = omega (arith, i.total, place, bytes);
       bounded = λ some. i.bounded (omega (arith, some, place, bytes));
       source_kept = i.source_kept;
-      sink_counts = omega (arith, i.sink_counts, c.in-Ok-send.ensures.counts);
+      sink_kept = c.in-Ok-send_fixed.ensures.kept ∙ i.sink_kept;
+      clock_stays = i.clock_stays;
       keeper_counts = i.keeper_counts;
     }
 
-pub returns-in-Err-send-clause-ends : goal.returns-in-Err-send-clause-ends
-returns-in-Err-send-clause-ends g c =
+pub returns-in-Err-send_fixed-clause-ends : goal.returns-in-Err-send_fixed-clause-ends
+returns-in-Err-send_fixed-clause-ends g c =
     let i = c.loop-source.invariant in
-    let text = rw c.continue_text.ensures at c.in-Err-send.ensures.prefix in
-    broken_at _ _ _ _ _ _ continue (c.in-Continue.ensures.item i.no_fault) i.so_far (item_broken _ continue continue_text _ refl text)
+    broken_at _ _ _ _ _ _ continue (c.in-Continue.ensures.item i.no_fault) i.so_far (item_broken _ continue continue_text _ refl c.in-Err-send_fixed.ensures.prefix)
 
 pub returns-in-Err-serve-clause-ends : goal.returns-in-Err-serve-clause-ends
 returns-in-Err-serve-clause-ends g c =
@@ -105,7 +109,7 @@ loop-source-smaller g c =
     let after = c.in-Request.ensures.after in
     let drops = of_some _ c.in-Request.request (λ r. c.done.new.self ≡ dropped c.next.new.self r) (ap (λ (s : Stream). request_in s.last) after) c.done.ensures.after in
     let stands = after_request c.loop-source.messages c.next.new.self c.done.new.self c.in-Request.request after drops c.in-Request.ensures.request.body_in_range in
-    measure_less (g.S.Source.bound c.loop-source.source) (length c.loop-source.messages.bytes) (length c.done.new.self.bytes) c.loop-source.messages.continued c.done.new.self.continued (omega (arith, stands.1, request_some c.loop-source.messages c.in-Request.request (c.in-Request.ensures.item i.no_fault)))
+    measure_less (g.S.Source.told c.loop-source.source).bound (length c.loop-source.messages.bytes) (length c.done.new.self.bytes) c.loop-source.messages.continued c.done.new.self.continued (omega (arith, stands.1, request_some c.loop-source.messages c.in-Request.request (c.in-Request.ensures.item i.no_fault)))
 
 pub loop-source-preserved : goal.loop-source-preserved
 loop-source-preserved g c =
@@ -118,6 +122,7 @@ loop-source-preserved g c =
     let stands = after_request c.loop-source.messages c.next.new.self c.done.new.self c.in-Request.request after drops fits in
     record {
       so_far = request_step _ _ _ _ _ c.loop-source.messages c.next.new.self c.done.new.self c.in-Request.request after drops adds c.if-request.false fits (c.in-Request.ensures.item i.no_fault) i.so_far c.in-Ok-serve.ensures.served;
+      finds = λ name. finds_then _ _ _ _ _ _ i.keeper_counts c.in-Ok-serve.ensures.keeper_counts (i.finds name) (c.in-Ok-serve.ensures.finds name);
       opened = c.in-Ok-serve.ensures.stays_open;
       no_fault = stands.3;
       not_closed = stands.2 ∙ c.if-request.false;
@@ -125,7 +130,8 @@ loop-source-preserved g c =
       total = omega (arith, i.total, stands.0, stands.1);
       bounded = λ some. i.bounded (omega (arith, some, stands.0, stands.1));
       source_kept = i.source_kept;
-      sink_counts = omega (arith, i.sink_counts, c.in-Ok-serve.ensures.counts);
+      sink_kept = c.in-Ok-serve.ensures.kept ∙ i.sink_kept;
+      clock_stays = c.in-Ok-serve.ensures.clock_stays ∙ i.clock_stays;
       keeper_counts = omega (arith, i.keeper_counts, c.in-Ok-serve.ensures.keeper_counts);
     }
 

@@ -10,7 +10,7 @@ loop-i-preserved c =
     let fits : FitsSigned w32 (get_or c.samples-samples.result.now c.loop-i.i (pos 0)) = search rules in
     let whole : to_z w32 (of_z w32 (get_or c.samples-samples.result.now c.loop-i.i (pos 0))) ≡ get_or c.samples-samples.result.now c.loop-i.i (pos 0) = omega (arith, ints) in
     let told = lines_of-more c.loop-i.text.items _ c.period-period.result c.loop-i.i c.samples-samples.result.now sample (pos 0) c.loop-i-test.true refl c.loop-i.invariant in
-    rw (c.in_ok-push_line.ensures, whole) told
+    rw (c.in_ok-push_line.ensures.line, whole) told
 
 pub returns-clause-text : goal.returns-clause-text
 returns-clause-text c =

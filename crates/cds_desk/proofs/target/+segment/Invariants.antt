@@ -1,0 +1,4 @@
+use Rattle.cds_desk.proofs.target.+segment.Given as goal
+
+abbrev pub decreases-segment : goal.decreases-segment
+decreases-segment l = l.place

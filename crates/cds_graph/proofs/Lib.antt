@@ -1,0 +1,5 @@
+pub mod StayLaws
+pub mod KeyLaws
+pub mod KeptLaws
+pub mod FigureLaws
+pub mod BoundLaws

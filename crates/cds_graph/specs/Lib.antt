@@ -1,0 +1,12 @@
+pub mod Recorded
+pub mod Rows
+pub mod Points
+pub mod Amounts
+pub mod Noise
+pub mod Figures
+pub mod Checks
+pub mod Results
+pub mod Keys
+pub mod Staying
+pub mod Kept
+pub mod Held

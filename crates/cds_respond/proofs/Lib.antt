@@ -1,0 +1,3 @@
+pub mod ReceivingLaws
+pub mod RefusalTexts
+pub mod SendingLaws
