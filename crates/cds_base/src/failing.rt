@@ -52,7 +52,7 @@ impl Failing {
     }
 
     /// Counts a fault of the last call that has another cause.
-    pub fn fault(&mut self)
+    pub(crate) fn fault(&mut self)
         ensures counted { self.new ≡ after_fault self.old }
         ensures counts { self.old.faults ≤ self.new.faults }
         ensures rose { Rose self.old.faults self.new.faults }

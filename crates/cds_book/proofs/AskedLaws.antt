@@ -6,7 +6,7 @@ use Rattle.std.proofs.lemmas.List.Elements.{All-nil, All-cons}
 use Rattle.cds_base.specs.Answers.{◌>>=◌}
 use Rattle.cds_sign.specs.Ranges.{IsWithin}
 use Rattle.cds_sign.specs.declared.asked.AskedRow.{AskedRow}
-use Rattle.cds_sign.specs.declared.limits.TheConstants.{MOST_AMOUNT}
+use Rattle.cds_base.specs.declared.limits.TheConstants.{MOST_AMOUNT}
 use Rattle.cds_sign.specs.declared.row.Row.{Row}
 use Rattle.cds_sign.specs.declared.row.RowKind.{RowKind}
 use Rattle.cds_book.specs.Judged.{must, each_judged, standard_judged, standards_judged, amount_judged, amounts_judged, trace_judged, label_judged, row_judged, rows_judged}

@@ -6,7 +6,7 @@ use Rattle.std.specs.Option.{option_map_or}
 use Rattle.std.specs.Str.{bytes_eq}
 use Rattle.cds_base.specs.Answers.{◌>>=◌}
 use Rattle.cds_sign.specs.declared.asked.AskedRow.{AskedRow}
-use Rattle.cds_sign.specs.declared.limits.TheConstants.{MOST_AMOUNT}
+use Rattle.cds_base.specs.declared.limits.TheConstants.{MOST_AMOUNT}
 use Rattle.cds_sign.specs.declared.row.Row.{Row}
 use Rattle.cds_sign.specs.declared.row.RowKind.{RowKind}
 use Rattle.cds_sign.specs.declared.sequence.Sequence.{Sequence}

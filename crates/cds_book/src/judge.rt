@@ -13,10 +13,10 @@ ghost use Rattle.cds_book.specs.declared.error.PlanError.TheVariants.{NoMemory};
 use crate::command::SignPlan;
 use crate::error::PlanError;
 use crate::tables::Tables;
-use cds_base::Name;
+use cds_base::{MOST_AMOUNT, Name};
 use cds_sign::{
-    AmountList, AskedAmountList, AskedRow, AskedRowList, MOST_AMOUNT, NameList, Row, RowKind,
-    RowList, Sequence, Signed,
+    AmountList, AskedAmountList, AskedRow, AskedRowList, NameList, Row, RowKind, RowList, Sequence,
+    Signed,
 };
 use std::alloc::Global;
 

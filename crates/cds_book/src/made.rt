@@ -7,7 +7,7 @@ ghost use Rattle.cds_book.specs.Plan.{basis_of, sequence_made, sequence_put, wit
 
 use crate::tables::Tables;
 use cds_base::{EventList, Name, NoMemory};
-use cds_sign::{Change, NameList, Row, RowList, Sequence};
+use cds_sign::{Change, NameList, Row, RowList, Sequence, copies_of};
 use std::alloc::Global;
 
 impl Tables {
@@ -144,18 +144,6 @@ fn rows_with(alloc: Global, rows: &[Row], row: u32, events: &EventList) -> Resul
     let events = events.copy()?;
     put_events(&mut copies, row, events);
     Ok(RowList::from_vec(copies))
-}
-
-// Equal rows in the same order.
-fn copies_of(alloc: Global, rows: &[Row]) -> Result<Vec<Row>, NoMemory>
-    ensures { IfOk result (λ copies. copies.items ≡ rows.now) }
-{
-    let mut copies = Vec::new(alloc);
-    for place in 0..rows.len() {
-        let copy = rows[place].copy()?;
-        copies.push(copy)?;
-    }
-    Ok(copies)
 }
 
 // Puts the manual events of the row of a number, counted from 1, if there is such a row.

@@ -2,7 +2,8 @@
 use Rattle.std.specs.Prelude.{ℕ, ◌*◌, ◌<◌, ◌≤◌, List, length, sum_by, All}
 use Rattle.cds_base.specs.declared.peak.TheConstants.{AREA_LIMIT}
 use Rattle.cds_calib.specs.declared.point.Point.{Point}
-use Rattle.cds_calib.specs.declared.point.TheConstants.{MOST_AMOUNT, MOST_POINTS}
+use Rattle.cds_base.specs.declared.limits.TheConstants.{MOST_AMOUNT}
+use Rattle.cds_calib.specs.declared.point.TheConstants.{MOST_POINTS}
 
 -- a point within the limits: an amount of 1 to 10^9 and an area below 2^52
 pub record IsPoint (p : Point) : Type 0 where

@@ -2,7 +2,7 @@
 ghost use Rattle.std.specs.Prelude.{◌≡◌, ◌*◌, ◌/◌, ◌^◌, List, Ok};
 ghost use Rattle.cds_calib.specs.declared.determination.TheConstants.{MOST_DETERMINATION};
 ghost use Rattle.cds_calib.specs.declared.point.Point.{Point};
-ghost use Rattle.cds_calib.specs.declared.point.TheConstants.{MOST_AMOUNT, MOST_POINTS};
+ghost use Rattle.cds_calib.specs.declared.point.TheConstants.{MOST_POINTS};
 ghost use Rattle.cds_calib.specs.Fit.{CalibrationLine, fit_of, common_multiple};
 ghost use Rattle.cds_calib.specs.Fit.{divisor_limit, slope_limit, intercept_limit};
 ghost use Rattle.cds_calib.specs.LeastSquares.{MeetsNormalEquations};
@@ -31,7 +31,7 @@ pub fn inverse_lines_are_least_squares()
 
 /// The limits that definitions cite.
 pub fn the_limits()
-    ensures points { (MOST_POINTS ≡ 64) × (MOST_AMOUNT ≡ 1000000000) }
+    ensures points { MOST_POINTS ≡ 64 }
     ensures determination { MOST_DETERMINATION ≡ 10000 }
     ensures divisors { (divisor_limit Equal ≡ 2 ^ 72) × (divisor_limit Origin ≡ 2 ^ 66)
         × (divisor_limit Inverse ≡ 2 ^ 102) }

@@ -24,5 +24,5 @@ pub use laws::{
     equal_lines_are_least_squares, inverse_lines_are_least_squares, origin_lines_are_least_squares,
     the_limits,
 };
-pub use point::{MOST_AMOUNT, MOST_POINTS, Point};
+pub use point::{MOST_POINTS, Point};
 pub use points::Points;

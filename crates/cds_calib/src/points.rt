@@ -3,7 +3,7 @@ ghost use Rattle.std.specs.Prelude.{◌≡◌, ◌<◌, ◌≤◌, [], ◌↔◌
 ghost use Rattle.cds_calib.specs.Points.{IsCalibration};
 ghost use Rattle.cds_calib.specs.Sums.{sums_of, IsSmall};
 
-use crate::point::{MOST_AMOUNT, MOST_POINTS, Point};
+use crate::point::{MOST_POINTS, Point};
 use crate::sums::Sums;
 use cds_base::{AREA_LIMIT, NoMemory};
 use std::alloc::Global;

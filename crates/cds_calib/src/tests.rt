@@ -1,6 +1,6 @@
 use crate::multiple::common_multiple;
-use crate::{MOST_AMOUNT, MOST_POINTS, Points, amount};
-use cds_base::{AREA_LIMIT, Missing, NoMemory};
+use crate::{MOST_POINTS, Points, amount};
+use cds_base::{AREA_LIMIT, MOST_AMOUNT, Missing, NoMemory};
 use cds_rules::Weight;
 use std::alloc::Global;
 use std::test::Fail;

@@ -11,7 +11,8 @@ use Rattle.cds_base.specs.declared.event.Event.{Event}
 use Rattle.cds_base.specs.declared.event.Event.TheVariants as timed
 use Rattle.cds_base.specs.declared.event.TheConstants.{MOST_EVENTS}
 use Rattle.cds_sign.specs.Ranges.{AreAmountNames, AreRows, AreStandards, IsRow, IsWithin}
-use Rattle.cds_sign.specs.declared.limits.TheConstants.{MOST_ROWS, MOST_STANDARDS, MOST_AMOUNTS, MOST_AMOUNT, MOST_VERSIONS, MOST_DILUTION}
+use Rattle.cds_base.specs.declared.limits.TheConstants.{MOST_AMOUNT}
+use Rattle.cds_sign.specs.declared.limits.TheConstants.{MOST_ROWS, MOST_STANDARDS, MOST_AMOUNTS, MOST_VERSIONS, MOST_DILUTION}
 use Rattle.cds_sign.specs.declared.row.Row.{Row}
 use Rattle.cds_sign.specs.declared.row.RowKind.{RowKind}
 use Rattle.cds_sign.specs.declared.row.RowKind.TheVariants as kinds

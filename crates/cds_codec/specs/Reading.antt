@@ -21,7 +21,8 @@ use Rattle.cds_trace.specs.declared.error.TraceError.{TraceError}
 use Rattle.cds_sign.specs.Printed.{is_printed}
 use Rattle.cds_sign.specs.declared.command.Change.{Change}
 use Rattle.cds_sign.specs.declared.command.Change.TheVariants as changes
-use Rattle.cds_sign.specs.declared.limits.TheConstants.{MOST_ROWS, MOST_STANDARDS, MOST_AMOUNTS, MOST_AMOUNT, MOST_VERSIONS, MOST_DILUTION, MOST_EDITION, MOST_BASIS, MOST_SIGNATURES}
+use Rattle.cds_base.specs.declared.limits.TheConstants.{MOST_AMOUNT}
+use Rattle.cds_sign.specs.declared.limits.TheConstants.{MOST_ROWS, MOST_STANDARDS, MOST_AMOUNTS, MOST_VERSIONS, MOST_DILUTION, MOST_EDITION, MOST_BASIS, MOST_SIGNATURES}
 use Rattle.cds_sign.specs.declared.row.Row.{Row}
 use Rattle.cds_sign.specs.declared.row.RowKind.{RowKind}
 use Rattle.cds_sign.specs.declared.row.RowKind.TheVariants as kinds

@@ -7,10 +7,9 @@ use crate::events::events_at;
 use crate::fields::{byte_at, byte_in, name_at, u32_in};
 use crate::items::{Item, items_at};
 use crate::pairs::are_rising;
-use cds_base::Name;
+use cds_base::{MOST_AMOUNT, Name};
 use cds_sign::{
-    AmountList, MOST_AMOUNT, MOST_AMOUNTS, MOST_DILUTION, MOST_ROWS, MOST_VERSIONS, Row, RowKind,
-    RowList,
+    AmountList, MOST_AMOUNTS, MOST_DILUTION, MOST_ROWS, MOST_VERSIONS, Row, RowKind, RowList,
 };
 use std::alloc::{AllocError, Global};
 

@@ -2,9 +2,10 @@
 -- project. Times and widths are in microseconds.
 use Rattle.std.specs.Prelude.{ℕ, ◌+◌, ◌-◌, ◌*◌, pos, ◌-ℤ◌, ◌*ℤ◌, unsigned_abs}
 use Rattle.std.specs.Int.{abs_diff}
+use Rattle.cds_base.specs.declared.limits.TheConstants.{HUNDREDTHS}
 use Rattle.cds_base.specs.declared.peak.Ratio.{Ratio}
 use Rattle.cds_frac.specs.Fraction.{Fraction, lowest_terms}
-use Rattle.cds_figures.specs.declared.formulas.TheConstants.{HUNDREDTHS, RESOLUTION_HUNDREDTHS, PLATES_HUNDREDTHS}
+use Rattle.cds_figures.specs.declared.formulas.TheConstants.{RESOLUTION_HUNDREDTHS, PLATES_HUNDREDTHS}
 
 -- 1.18 |t2 - t1| / (w1 + w2), with the times of two peaks and their widths at half height
 abbrev pub resolution_of : ℕ → ℕ → ℕ → ℕ → Fraction

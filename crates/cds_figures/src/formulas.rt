@@ -2,11 +2,8 @@
 ghost use Rattle.std.specs.Prelude.{◌≡◌, ◌+◌, ◌-◌, ◌*◌, ◌<◌, ◌≤◌, pos, ◌*ℤ◌, ◌<ℤ◌, unsigned_abs};
 ghost use Rattle.cds_figures.specs.Figures.{resolution_of, plates_of, tailing_of, signal_noise_of, retention_of, peak_valley_of};
 
-use cds_base::{HEIGHT_LIMIT, LAST_TIME_US, Ratio};
+use cds_base::{HEIGHT_LIMIT, HUNDREDTHS, LAST_TIME_US, Ratio};
 use cds_frac::Frac;
-
-/// How many hundredths a whole has: the factors of resolution and of plates are in hundredths.
-pub(crate) const HUNDREDTHS: u64 = 100;
 
 /// The factor of resolution, 1.18, in hundredths.
 pub(crate) const RESOLUTION_HUNDREDTHS: u64 = 118;

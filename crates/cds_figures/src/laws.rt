@@ -2,7 +2,7 @@
 ghost use Rattle.std.specs.Prelude.{◌≡◌, ℕ, ◌*◌};
 ghost use Rattle.cds_trace.specs.Signal.{Signal};
 ghost use Rattle.cds_figures.specs.PeakTime.{peak_time_of};
-ghost use Rattle.cds_figures.specs.declared.formulas.TheConstants.{HUNDREDTHS, RESOLUTION_HUNDREDTHS, PLATES_HUNDREDTHS};
+ghost use Rattle.cds_figures.specs.declared.formulas.TheConstants.{RESOLUTION_HUNDREDTHS, PLATES_HUNDREDTHS};
 ghost use Rattle.cds_figures.specs.declared.times.TheConstants.{VERTEX_RULES};
 ghost use Rattle.cds_figures.specs.declared.widths.TheConstants.{TWENTIETHS};
 
@@ -11,7 +11,7 @@ ghost use Rattle.cds_figures.specs.declared.widths.TheConstants.{TWENTIETHS};
 pub fn the_numbers()
     ensures parts { TWENTIETHS ≡ 20 }
     ensures rules { VERTEX_RULES ≡ 2 }
-    ensures factors { (HUNDREDTHS ≡ 100) × (RESOLUTION_HUNDREDTHS ≡ 118) × (PLATES_HUNDREDTHS ≡ 554) }
+    ensures factors { (RESOLUTION_HUNDREDTHS ≡ 118) × (PLATES_HUNDREDTHS ≡ 554) }
 {}
 
 /// Under rules 1 the time of a peak is that of its apex sample, whatever its range.

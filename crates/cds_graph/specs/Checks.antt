@@ -2,6 +2,7 @@
 use Rattle.std.specs.Prelude.{ℕ, List, [], ◌∷◌, Option, Some, None, map, take, flat_map, filter_map, option_map}
 use Rattle.std.specs.Prelude.{Result, Ok, Err, pos}
 use Rattle.cds_base.specs.Answers.{◌>>=◌}
+use Rattle.cds_base.specs.declared.limits.TheConstants.{HUNDREDTHS}
 use Rattle.cds_base.specs.declared.peak.Missing.{Missing}
 use Rattle.cds_base.specs.declared.peak.Missing.TheVariants.{TooFew}
 use Rattle.cds_rules.specs.declared.check.Check.{Check}
@@ -12,7 +13,6 @@ use Rattle.cds_frac.specs.Fraction.{Fraction, lowest_terms}
 use Rattle.cds_calib.specs.declared.point.Point.{Point}
 use Rattle.cds_calib.specs.declared.determination.TheConstants.{MOST_DETERMINATION}
 use Rattle.cds_calib.specs.Determination.{at_least_of, determination_of}
-use Rattle.cds_suit.specs.declared.checks.TheConstants.{HUNDREDTHS}
 use Rattle.cds_suit.specs.declared.square.TheConstants.{MOST_VALUES}
 use Rattle.cds_suit.specs.declared.verdict.Verdict.{Verdict}
 use Rattle.cds_suit.specs.declared.verdict.Verdict.TheVariants.{Undecided}

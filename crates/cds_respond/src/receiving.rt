@@ -8,10 +8,11 @@ ghost use Rattle.cds_respond.specs.declared.receiving.TheConstants.{MOST_SOURCE_
 
 use crate::piece::new_piece;
 use cds_base::{Failed, Source};
+use cds_http::MOST_BODY_BYTES;
 use std::alloc::{AllocError, Global};
 
-/// The most bytes that a command reads from its source.
-pub const MOST_SOURCE_BYTES: usize = 16_777_216;
+/// The most bytes that a command reads from its source: as many as a body has at most.
+pub const MOST_SOURCE_BYTES: usize = MOST_BODY_BYTES;
 
 /// Why a source was not read.
 #[derive(Clone, Copy, Debug, PartialEq, Eq)]

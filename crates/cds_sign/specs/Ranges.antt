@@ -15,7 +15,8 @@ use Rattle.cds_sign.specs.declared.command.Change.{Change}
 use Rattle.cds_sign.specs.declared.command.Change.TheVariants as change
 use Rattle.cds_sign.specs.declared.command.Command.{Command}
 use Rattle.cds_sign.specs.declared.command.Command.TheVariants as command
-use Rattle.cds_sign.specs.declared.limits.TheConstants.{MOST_ROWS, MOST_STANDARDS, MOST_AMOUNTS, MOST_AMOUNT, MOST_VERSIONS, MOST_DILUTION, MOST_EDITION, MOST_BASIS, MOST_SIGNATURES, TEXT_LIMIT}
+use Rattle.cds_base.specs.declared.limits.TheConstants.{MOST_AMOUNT}
+use Rattle.cds_sign.specs.declared.limits.TheConstants.{MOST_ROWS, MOST_STANDARDS, MOST_AMOUNTS, MOST_VERSIONS, MOST_DILUTION, MOST_EDITION, MOST_BASIS, MOST_SIGNATURES, TEXT_LIMIT}
 use Rattle.cds_sign.specs.declared.row.Row.{Row}
 
 -- a number from one to another, both included

@@ -1,6 +1,6 @@
 //! Laws of sequences. Each is proved by its contract, and its body does nothing.
 ghost use Rattle.std.specs.Prelude.{◌≡◌, ◌-◌, ◌^◌};
-ghost use Rattle.cds_sign.specs.declared.limits.TheConstants.{MOST_ROWS, MOST_STANDARDS, MOST_AMOUNTS, MOST_AMOUNT};
+ghost use Rattle.cds_sign.specs.declared.limits.TheConstants.{MOST_ROWS, MOST_STANDARDS, MOST_AMOUNTS};
 ghost use Rattle.cds_sign.specs.declared.limits.TheConstants.{MOST_VERSIONS, MOST_DILUTION, MOST_EDITION, MOST_BASIS};
 ghost use Rattle.cds_sign.specs.declared.limits.TheConstants.{MOST_SIGNATURES, MOST_PRINTED_BYTES, TEXT_LIMIT};
 
@@ -8,7 +8,6 @@ ghost use Rattle.cds_sign.specs.declared.limits.TheConstants.{MOST_SIGNATURES, M
 /// signatures, of what a signature says, and of texts.
 pub fn the_limits()
     ensures counts { (MOST_ROWS ≡ 200) × (MOST_STANDARDS ≡ 8) × (MOST_AMOUNTS ≡ 32) }
-    ensures amount { MOST_AMOUNT ≡ 1000000000 }
     ensures version { MOST_VERSIONS ≡ 1000 }
     ensures dilution { MOST_DILUTION ≡ 1000000 }
     ensures numbers { (MOST_EDITION ≡ 2 ^ 32 - 1) × (MOST_BASIS ≡ 2 ^ 63 - 1) }

@@ -24,12 +24,12 @@ pub use command::{Change, Command};
 pub use inputs::{Inputs, Listed, ListedList, ListedRow, ListedRowList};
 pub use laws::the_limits;
 pub use limits::{
-    MOST_AMOUNT, MOST_AMOUNTS, MOST_BASIS, MOST_DILUTION, MOST_EDITION, MOST_PRINTED_BYTES,
-    MOST_ROWS, MOST_SIGNATURES, MOST_STANDARDS, MOST_VERSIONS, TEXT_LIMIT,
+    MOST_AMOUNTS, MOST_BASIS, MOST_DILUTION, MOST_EDITION, MOST_PRINTED_BYTES, MOST_ROWS,
+    MOST_SIGNATURES, MOST_STANDARDS, MOST_VERSIONS, TEXT_LIMIT,
 };
 pub use names::NameList;
 pub use printed::is_printed;
-pub use row::{Row, RowKind, RowList};
+pub use row::{Row, RowKind, RowList, copies_of};
 pub use sequence::Sequence;
 pub use signed::Signed;
 

@@ -9,9 +9,6 @@ pub const MOST_STANDARDS: usize = 8;
 /// The most amounts of a row.
 pub const MOST_AMOUNTS: usize = 32;
 
-/// The greatest amount that a standard states. The least is 1.
-pub const MOST_AMOUNT: u32 = 1_000_000_000;
-
 /// The most versions of one trace name, and of one method; so the greatest version that a sequence or a row may bind,
 /// where 0 stands for the latest one.
 pub const MOST_VERSIONS: u32 = 1_000;

@@ -137,8 +137,8 @@ impl RowList {
     }
 }
 
-/// Equal rows in the same order.
-fn copies_of(alloc: Global, rows: &[Row]) -> Result<Vec<Row>, NoMemory>
+/// Equal rows in the same order, with memory of their own. The only refusal is want of memory.
+pub fn copies_of(alloc: Global, rows: &[Row]) -> Result<Vec<Row>, NoMemory>
     ensures { IfOk result (λ copies. copies.items ≡ rows.now) }
 {
     let mut copies = Vec::new(alloc);

@@ -1,12 +1,13 @@
 -- The checks of system suitability that compare one value of a row with a limit. This project's own rules.
 use Rattle.std.specs.Prelude.{ℕ, Bool, Option, Some, None, option_map, is_some, Result, Ok, Err, pos}
 use Rattle.std.specs.Ordering.{is_le, is_ge}
+use Rattle.cds_base.specs.declared.limits.TheConstants.{HUNDREDTHS}
 use Rattle.cds_base.specs.declared.peak.Missing.{Missing}
 use Rattle.cds_rules.specs.declared.check.CheckKind.{CheckKind}
 use Rattle.cds_rules.specs.declared.check.CheckKind.TheVariants.{Resolution, Tailing, Plates, SignalNoise, Retention, PeakValley, RsdArea, RsdTime, R2}
 use Rattle.cds_frac.specs.Fraction.{Fraction}
 use Rattle.cds_frac.specs.FractionOrder.{ratio_cmp}
-use Rattle.cds_suit.specs.declared.checks.TheConstants.{ONES, HUNDREDTHS}
+use Rattle.cds_suit.specs.declared.checks.TheConstants.{ONES}
 use Rattle.cds_suit.specs.declared.verdict.Verdict.{Verdict}
 use Rattle.cds_suit.specs.declared.verdict.Verdict.TheVariants.{Undecided}
 use Rattle.cds_suit.specs.Verdict.{verdict_of}

@@ -3,15 +3,12 @@ ghost use Rattle.std.specs.Prelude.{◌≡◌, ◌≤◌, IsTrue, Some, option_m
 ghost use Rattle.cds_suit.specs.Check.{compares_one, keeps, is_at_least, is_at_most, check_of};
 
 use crate::verdict::Verdict;
-use cds_base::Missing;
+use cds_base::{HUNDREDTHS, Missing};
 use cds_frac::Frac;
 use cds_rules::CheckKind;
 
 /// The limit of a check of plates is in ones.
 pub const ONES: u32 = 1;
-
-/// The limits of the other checks that compare one value are in hundredths.
-pub const HUNDREDTHS: u32 = 100;
 
 /// The verdict of a check that compares one value of a row with its limit: resolution, plates, signal to noise,
 /// retention factor and peak to valley pass where the value is at least the limit, tailing where it is at most the

@@ -30,7 +30,7 @@ impl Verdict {
     }
 
     /// Whether this is Fail.
-    pub fn is_fail(&self) -> bool
+    pub(crate) fn is_fail(&self) -> bool
         ensures { result ≡ is_fail self.now }
     {
         match *self {
@@ -41,7 +41,7 @@ impl Verdict {
     }
 
     /// Whether this is Undecided, for whatever cause.
-    pub fn is_undecided(&self) -> bool
+    pub(crate) fn is_undecided(&self) -> bool
         ensures { result ≡ is_undecided self.now }
     {
         match *self {
