@@ -31,7 +31,7 @@ listed_of-applied t c name = ap (option_map (listed_as (bindings_of (applied t c
     by_found (Some e) = refl
 
 -- and the inputs of each
-inputs_of-applied : (t : TablesState) (c : Change) (name : List ℕ) → inputs_of (applied t c) name ≡ inputs_of (carried t c) name
+pub inputs_of-applied : (t : TablesState) (c : Change) (name : List ℕ) → inputs_of (applied t c) name ≡ inputs_of (carried t c) name
 unfolding applied bindings_of inputs_by inputs_in row_resolved signals_of texts_of sequence_of
 inputs_of-applied t c name = ap (option_map (inputs_in (bindings_of (applied t c)))) (sequence_of-applied t c name) ∙ by_found (sequence_named (carried t c) name)
   where

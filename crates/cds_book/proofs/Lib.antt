@@ -21,6 +21,7 @@ pub mod BasisLaws
 pub mod StayLaws
 pub mod ReadLaws
 pub mod OtherLaws
+pub mod AfterLaws
 pub mod HeldLaws
 pub mod PutLaws
 pub mod RoomLaws

@@ -18,7 +18,7 @@ pub draft_of-carried : (t : TablesState) (name text : List ℕ) → draft_of (ca
 draft_of-carried t name text = rw (carried-draft t name text) (draft_of-with t name text (texts_of t name))
 
 -- a further version has the next number
-numbered-push : {X : Type 0} (versions : List X) (x : X) → numbered (versions ++ x ∷ []) (length versions + 1) ≡ Some x
+pub numbered-push : {X : Type 0} (versions : List X) (x : X) → numbered (versions ++ x ∷ []) (length versions + 1) ≡ Some x
 numbered-push versions x =
     let some : (length versions + 1 == 0) ≡ false = grind (arith, nat_tests) in
     let at : length (versions ++ x ∷ []) - 1 ≡ length versions + 1 - 1 = omega (arith, length-append versions (x ∷ [])) in

@@ -139,6 +139,11 @@ rebased before after =
 unfoldable pub applied : TablesState → Change → TablesState
 applied tables change = rebased tables (carried tables change)
 
+-- the tables after a change, if there is one
+abbrev pub with_change : TablesState → Option Change → TablesState
+with_change tables None = tables
+with_change tables (Some change) = applied tables change
+
 -- the counts that a change may raise, of the tables after it, each with its limit, in the order of judging
 abbrev pub counts_of : Change → TablesState → List (ℕ × ℕ)
 counts_of (change.Trace name signal) tables =

@@ -6,6 +6,7 @@
 //! [`Tables::apply`] can't fail.
 #![tactic(auto)]
 
+mod after;
 mod apply;
 mod command;
 mod counts;

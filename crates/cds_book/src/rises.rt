@@ -52,7 +52,7 @@ impl Tables {
     }
 
     // What a change makes other.
-    fn over(&self, change: &Change) -> Result<Over, NoMemory>
+    pub(crate) fn over(&self, change: &Change) -> Result<Over, NoMemory>
         ensures { IfOk result (λ over. bindings_over self.now.state over ≡ bindings_of (carried self.now.state change.now)) }
     {
         match change {
