@@ -5,7 +5,7 @@ ghost use Rattle.cds_calib.specs.Sums.{sums_of, IsSmall};
 
 use crate::point::{MOST_POINTS, Point};
 use crate::sums::Sums;
-use cds_base::{AREA_LIMIT, NoMemory};
+use cds_base::{AREA_LIMIT, MOST_AMOUNT, NoMemory};
 use std::alloc::Global;
 use std::marker::Model;
 
