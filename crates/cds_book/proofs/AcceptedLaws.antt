@@ -9,7 +9,7 @@ use Rattle.cds_base.specs.declared.event.Event.{Event}
 use Rattle.cds_sign.specs.declared.command.Change.{Change}
 use Rattle.cds_sign.specs.declared.command.Change.TheVariants as change
 use Rattle.cds_sign.specs.declared.inputs.Inputs.{Inputs}
-use Rattle.cds_sign.specs.declared.limits.TheConstants.{MOST_EDITION, MOST_ROWS, MOST_SIGNATURES}
+use Rattle.cds_sign.specs.declared.limits.TheConstants.{MOST_EDITION, MOST_SIGNATURES}
 use Rattle.cds_sign.specs.declared.row.Row.{Row}
 use Rattle.cds_sign.specs.declared.sequence.Sequence.{Sequence}
 use Rattle.cds_sign.specs.declared.signed.Signed.{Signed}
@@ -29,7 +29,8 @@ use Rattle.cds_book.specs.declared.error.PlanError.{PlanError}
 use Rattle.cds_book.specs.declared.error.PlanError.TheVariants.{NoSequence, NoVersion, Edition}
 use Rattle.cds_book.specs.declared.limits.TheConstants.{MOST_SEQUENCES, MOST_ROWS_IN_ALL, MOST_SIGNED_BYTES}
 use Rattle.cds_book.proofs.BindingLaws.{bindings-sign}
-use Rattle.cds_book.proofs.ContentLaws.{there-found, must-so, unless_full-none, entry-kept}
+use Rattle.cds_book.proofs.ContentLaws.{IsChange-accepted, there-found, must-so, next-signed, unless_full-none}
+use Rattle.cds_book.proofs.FitLaws.{Fits, Fits-there, Fits-put, Fits-events, Fits-rebind}
 use Rattle.cds_book.proofs.PlanLaws.{follows, kept_test, PlansSequence-planned}
 use Rattle.cds_book.proofs.SequenceLaws.{sequences-with, rows-with, signatures_of-with, sequence-signed}
 use Rattle.cds_book.proofs.VersionLaws.{AreWithin, AreWithin-none}
@@ -61,7 +62,7 @@ pub record MakesSequence (t : TablesState) (c : Change) (name : List ℕ) : Type
   pub edition : made.edition ≡ edition_of t name + 1
   pub basis : made.basis ≡ basis_of t name
   pub few_edition : edition_of t name ≤ MOST_EDITION
-  pub few_rows : length made.rows ≤ MOST_ROWS
+  pub fits : Fits t name made
   pub few : length (with_sequence t name made (signatures_of t name)).sequences ≤ MOST_SEQUENCES
   pub few_in_all : rows_in_all (with_sequence t name made (signatures_of t name)).sequences ≤ MOST_ROWS_IN_ALL
 
@@ -99,7 +100,7 @@ basis_of-there t name s there = sym (ap (λ (o : Option Sequence). option_map_or
 module _ (t : TablesState) (kept : IsTables t) (name : List ℕ) (edition : ℕ) (c : Change) (f : Sequence → Sequence) (s : Sequence)
     (there : sequence_of t name ≡ Some s) (other : other_planned t name edition c ≡ Ok (plan.Change c)) (seen : edition ≤ MOST_EDITION)
     (made : sequence_made t c ≡ option_map f (sequence_of t name)) (put : carried t c ≡ with_changed t name (sequence_made t c)) (room : room_of t c ≡ made_room t c name (sequence_made t c))
-    (next : (f s).edition ≡ edition_of t name + 1) (based : (f s).basis ≡ s.basis) (rows : length (f s).rows ≡ length s.rows) where
+    (next : (f s).edition ≡ edition_of t name + 1) (based : (f s).basis ≡ s.basis) (rows : length (f s).rows ≡ length s.rows) (fits : Fits t name (f s)) where
   MakesSequence-other : MakesSequence t c name
   MakesSequence-other =
       let is : sequence_made t c ≡ Some (f s) = made ∙ ap (option_map f) there in
@@ -112,7 +113,7 @@ module _ (t : TablesState) (kept : IsTables t) (name : List ℕ) (edition : ℕ)
         edition = next;
         basis = based ∙ basis_of-there t name s there;
         few_edition = omega (arith, seen, edition_is);
-        few_rows = let few = entry-kept t kept name s there in omega (arith, few, rows);
+        fits = fits;
         few = few-replaced t kept name s (f s) (signatures_of t name) there rows;
         few_in_all = few_rows-replaced t kept name s (f s) (signatures_of t name) there rows;
       }
@@ -128,6 +129,7 @@ makes-events t kept name edition row events accepts =
     let there = there-found (sequence_of t name) (NoSequence name) one.value one.judged in
     MakesSequence-other t kept name edition c (λ s. record s { edition = edition_of t name + 1; rows = with_events s.rows row events }) one.value
     there (kept_test (same_events two.value.events events) (other_planned t name edition c) c two.rest) accepts.command.0.edition refl refl refl refl refl (length-events one.value.rows row events)
+    (Fits-events t row events accepts.command.0.events name one.value (edition_of t name + 1) (Fits-there t kept name one.value there))
 
 -- a sequence that is there, bound to another version
 makes-rebind : (t : TablesState) → IsTables t → (name : List ℕ) (edition version : ℕ) → Accepts t (change.Rebind name edition version) → MakesSequence t (change.Rebind name edition version) name
@@ -141,18 +143,20 @@ makes-rebind t kept name edition version accepts =
     let there = there-found (sequence_of t name) (NoSequence name) one.value one.judged in
     MakesSequence-other t kept name edition c (λ s. record s { edition = edition_of t name + 1; version = version }) one.value
     there (kept_test (one.value.version == version) (other_planned t name edition c) c two.rest) accepts.command.0.edition refl refl refl refl refl refl
+    (Fits-rebind t name one.value (edition_of t name + 1) version (Fits-there t kept name one.value there) (must-so (NoVersion one.value.method) (can_bind (length (texts_of t one.value.method)) version) two.value two.judged))
 
 -- a sequence that is put
-makes-put : (t : TablesState) (name : List ℕ) (edition : ℕ) (method : List ℕ) (version : ℕ) (standards : List (List ℕ)) (rows : List Row) → Accepts t (change.Sequence name edition method version standards rows) → MakesSequence t (change.Sequence name edition method version standards rows) name
+makes-put : (t : TablesState) → IsTables t → (name : List ℕ) (edition : ℕ) (method : List ℕ) (version : ℕ) (standards : List (List ℕ)) (rows : List Row) → Accepts t (change.Sequence name edition method version standards rows) → MakesSequence t (change.Sequence name edition method version standards rows) name
 unfolding planned sequence_made room_of
-makes-put t name edition method version standards rows accepts =
+makes-put t kept name edition method version standards rows accepts =
     let c = change.Sequence name edition method version standards rows in
     let plans = PlansSequence-planned t name edition method version standards (map asked_of rows) c accepts.accepted in
     let other = IsOther-planned t name edition c plans.planned_is in
     let edition_is = other.edition_is in
     let seen = accepts.command.0.0.edition in
-    let many = accepts.command.0.1.count.few in
-    let same = length-map rows asked_of in
+    let same : plans.rows ≡ rows = let is = plans.is in cc in
+    let listed : plans.listed ≡ standards = let is = plans.is in cc in
+    let parts = IsChange-accepted t kept c accepts in
     record {
       made = sequence_put t name method version standards rows;
       made_is = refl;
@@ -161,7 +165,8 @@ makes-put t name edition method version standards rows accepts =
       edition = refl;
       basis = refl;
       few_edition = omega (arith, seen, edition_is);
-      few_rows = omega (arith, many, same);
+      fits = Fits-put t name (sequence_put t name method version standards rows) (map asked_of rows) standards plans.methods
+          (plans.standards_are ∙ ap Ok listed) (plans.rows_are ∙ ap Ok same) parts.0.standards parts.1;
       few = other.within.0;
       few_in_all = other.within.1.0;
     }
@@ -171,7 +176,7 @@ pub MakesSequence-accepted : (t : TablesState) → IsTables t → (c : Change) (
 MakesSequence-accepted t kept (change.Trace name signal) own makes accepts = absurd makes
 MakesSequence-accepted t kept (change.Draft name text) own makes accepts = absurd makes
 MakesSequence-accepted t kept (change.Freeze name version) own makes accepts = absurd makes
-MakesSequence-accepted t kept (change.Sequence name edition method version standards rows) own makes accepts = subst (MakesSequence t (change.Sequence name edition method version standards rows)) makes (makes-put t name edition method version standards rows accepts)
+MakesSequence-accepted t kept (change.Sequence name edition method version standards rows) own makes accepts = subst (MakesSequence t (change.Sequence name edition method version standards rows)) makes (makes-put t kept name edition method version standards rows accepts)
 MakesSequence-accepted t kept (change.Events name edition row events) own makes accepts = subst (MakesSequence t (change.Events name edition row events)) makes (makes-events t kept name edition row events accepts)
 MakesSequence-accepted t kept (change.Rebind name edition version) own makes accepts = subst (MakesSequence t (change.Rebind name edition version)) makes (makes-rebind t kept name edition version accepts)
 MakesSequence-accepted t kept (change.Sign sequence number basis moment name meaning text) own makes accepts = absurd makes
@@ -184,6 +189,7 @@ pub record MakesSignature (t : TablesState) (c : Change) (name : List ℕ) : Typ
   pub carried_is : carried t c ≡ with_sequence t name sequence (signatures_of t name ++ signed ∷ [])
   pub room_is : room_of t c ≡ Some (sign_room name signed)
   pub same : bindings_of t ≡ bindings_of (carried t c)
+  pub number : signed.number ≡ length (signatures_of t name) + 1
   pub few : length (signatures_of t name) + 1 ≤ MOST_SIGNATURES
   pub few_bytes : signed_bytes_in_all (with_sequence t name sequence (signatures_of t name ++ signed ∷ [])).sequences ≤ MOST_SIGNED_BYTES
 
@@ -196,6 +202,11 @@ there-some (Some x) is = (x, refl)
 within-planned : (t : TablesState) (c asked : Change) (p : SignPlan) → sign_planned t asked p ≡ Ok (plan.Change c) → AreWithin (counts_of asked (carried t asked))
 within-planned t c asked (sign.Kept n) is = cc
 within-planned t c asked sign.New is = AreWithin-none _ (unless_full-none (limit_passed (counts_of asked (carried t asked))) asked c is)
+
+-- and it is no kept one
+new-planned : (t : TablesState) (c asked : Change) (p : SignPlan) → sign_planned t asked p ≡ Ok (plan.Change c) → p ≡ sign.New
+new-planned t c asked (sign.Kept n) is = cc
+new-planned t c asked sign.New is = refl
 
 makes-sign : (t : TablesState) (sequence : List ℕ) (number basis moment : ℕ) (name meaning text : List ℕ) → Accepts t (change.Sign sequence number basis moment name meaning text) → MakesSignature t (change.Sign sequence number basis moment name meaning text) sequence
 unfolding planned signature_planned room_of bindings_over
@@ -216,6 +227,7 @@ makes-sign t sequence number basis moment name meaning text accepts =
       carried_is = is;
       room_is = ap (option_map (λ (s : Sequence). sign_room sequence (over (inputs_in (bindings_of t) s)))) found.1;
       same = bindings-sign t sequence over (sequence_of t sequence) refl;
+      number = next-signed t sequence basis number name meaning (one.judged ∙ ap Ok (new-planned t c c one.value one.rest));
       few = let more = length-append (signatures_of t sequence) (made ∷ []) in omega (arith, few, more);
       few_bytes = within.1.0;
     }

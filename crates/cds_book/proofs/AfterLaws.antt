@@ -16,40 +16,8 @@ use Rattle.cds_book.specs.Plan.{applied, carried, method_changed, trace_changed,
 use Rattle.cds_book.specs.Tables.{NamedTraces, NamedMethod, TablesState, numbered, draft_of, method_named, method_of, signals_of, texts_of, trace_of, traces_named}
 use Rattle.cds_book.proofs.MethodLaws.{texts_of-with}
 use Rattle.cds_book.proofs.OtherLaws.{other_methods, other_traces}
-use Rattle.cds_book.proofs.ReadLaws.{numbered-push}
-use Rattle.cds_book.proofs.StayLaws.{numbered-append}
+use Rattle.cds_book.proofs.NumberLaws.{numbered-other, numbered-past, numbered-push}
 use Rattle.cds_book.proofs.TraceLaws.{signals_of-with}
-
--- a number behind the last one is that of none
-numbered-past : {X : Type 0} (xs : List X) (n : ℕ) → length xs < n → numbered xs n ≡ None
-numbered-past xs n past =
-    let some : (n == 0) ≡ false = grind (arith, nat_tests) in
-    rw some (slice_get_past xs (n - 1) (omega (arith, past)))
-
--- a number of none is 0 or behind the last one
-past-numbered : {X : Type 0} (xs : List X) (n : ℕ) (x : X) → numbered xs n ≡ None → n ≢ 0 → length xs < n
-past-numbered xs n x none some = elim (cases_lt (n - 1) (length xs)) [
-  | inl below ↦
-      let test : (n == 0) ≡ false = grind (arith, nat_tests) in
-      let found : numbered xs n ≡ Some (get_or xs (n - 1) x) = rw test (slice_get-get_or xs (n - 1) x below) in
-      let contrary : None ≡ Some (get_or xs (n - 1) x) = sym none ∙ found in
-      cc
-  | inr past ↦ omega arith
-]
-
--- with one more item, each number but the next one is that of the same item
-pub numbered-other : {X : Type 0} (xs : List X) (x : X) (n : ℕ) → n ≢ length xs + 1 → numbered (xs ++ x ∷ []) n ≡ numbered xs n
-numbered-other {X = X} xs x n differs = by_found (numbered xs n) refl
-  where
-    by_found : (found : Option X) → numbered xs n ≡ found → numbered (xs ++ x ∷ []) n ≡ found
-    by_found (Some y) is = numbered-append xs (x ∷ []) n y is
-    by_found None is = elim (cases_eq n 0) [
-      | inl zero ↦ rw zero refl
-      | inr some ↦
-          let past = past-numbered xs n x is some in
-          let long = length-append xs (x ∷ []) in
-          numbered-past (xs ++ x ∷ []) n (omega (arith, past, long, differs))
-    ]
 
 -- a version of a name is one of the list of its versions
 trace_of-numbered : (t : TablesState) (name : List ℕ) (version : ℕ) → trace_of t name version ≡ numbered (signals_of t name) version

@@ -290,10 +290,11 @@ next-planned : (t : TablesState) (c asked : Change) (sequence : List ℕ) (basis
 next-planned t c asked sequence basis number name meaning (sign.Kept n) judged is = cc
 next-planned t c asked sequence basis number name meaning sign.New judged is = next-signed t sequence basis number name meaning judged
 
-again-sign : (t : TablesState) (sequence : List ℕ) (number basis moment : ℕ) (name meaning text : List ℕ) → Accepts t (change.Sign sequence number basis moment name meaning text)
-    → planned (applied t (change.Sign sequence number basis moment name meaning text)) (command.Sign sequence number basis moment name meaning text) ≡ Ok plan.Unchanged
+-- a signature is kept under its number
+pub kept-again : (t : TablesState) (sequence : List ℕ) (number basis moment : ℕ) (name meaning text : List ℕ) → Accepts t (change.Sign sequence number basis moment name meaning text)
+    → sign_judged (applied t (change.Sign sequence number basis moment name meaning text)) sequence basis number name meaning ≡ Ok (sign.Kept number)
 unfolding planned signature_planned sign_judged sequence_judged bindings_over
-again-sign t sequence number basis moment name meaning text accepts =
+kept-again t sequence number basis moment name meaning text accepts =
     let c = change.Sign sequence number basis moment name meaning text in
     let one = follows (sign_judged t sequence basis number name meaning) (sign_planned t c) c accepts.accepted in
     let next = next-planned t c c sequence basis number name meaning one.value one.judged one.rest in
@@ -309,8 +310,14 @@ again-sign t sequence number basis moment name meaning text accepts =
     after-ok (sequence_judged w sequence) there.0 (λ s. cond (option_map_or (says_same basis name meaning) (signed_of w sequence number) false) (Ok (sign.Kept number)) (new_judged w sequence s.basis basis number))
     (ap (λ (o : Option Sequence). ok_or o (NoSequence sequence)) (sequence_of-with t sequence there.0 signed))
     ∙ ap (λ b. cond b (Ok (sign.Kept number)) (new_judged w sequence there.0.basis basis number)) (ap (λ (o : Option Signed). option_map_or (says_same basis name meaning) o false) found ∙ same) in
-    subst (λ (s : TablesState). planned s (command.Sign sequence number basis moment name meaning text) ≡ Ok plan.Unchanged) (sym (applied-same t c (bindings-sign t sequence over (sequence_of t sequence) refl) ∙ is))
-    (after-ok (sign_judged w sequence basis number name meaning) (sign.Kept number) (sign_planned w c) kept)
+    subst (λ (s : TablesState). sign_judged s sequence basis number name meaning ≡ Ok (sign.Kept number)) (sym (applied-same t c (bindings-sign t sequence over (sequence_of t sequence) refl) ∙ is)) kept
+
+again-sign : (t : TablesState) (sequence : List ℕ) (number basis moment : ℕ) (name meaning text : List ℕ) → Accepts t (change.Sign sequence number basis moment name meaning text)
+    → planned (applied t (change.Sign sequence number basis moment name meaning text)) (command.Sign sequence number basis moment name meaning text) ≡ Ok plan.Unchanged
+unfolding planned signature_planned
+again-sign t sequence number basis moment name meaning text accepts =
+    let c = change.Sign sequence number basis moment name meaning text in
+    after-ok (sign_judged (applied t c) sequence basis number name meaning) (sign.Kept number) (sign_planned (applied t c) c) (kept-again t sequence number basis moment name meaning text accepts)
 
 -- a change that was carried out, asked for again, changes nothing
 pub planned-again : (t : TablesState) (c : Change) → Accepts t c → planned (applied t c) (command_of c) ≡ Ok plan.Unchanged

@@ -10,6 +10,7 @@ use Rattle.cds_book.specs.Plan.{applied, carried, inputs_differ, raised, with_me
 use Rattle.cds_book.specs.Tables.{NamedSequence, TablesState, texts_of, draft_of}
 use Rattle.cds_book.proofs.BindingLaws.{bindings-draft}
 use Rattle.cds_book.proofs.MethodLaws.{carried-freeze, method_versions-with, IsNewText-accepted, IsTables-draft, IsTables-freeze}
+use Rattle.cds_book.proofs.ResolvedLaws.{Grows-trace, Grows-draft, Grows-frozen}
 use Rattle.cds_book.proofs.RaisedLaws.{IsTables-rises, applied-same, one_more}
 use Rattle.cds_book.proofs.TraceLaws.{trace_versions-trace, IsTables-trace}
 
@@ -17,7 +18,7 @@ pub IsTables-applied_trace : (t : TablesState) (name : List ℕ) (signal : Signa
 IsTables-applied_trace t name signal kept accepts =
     let c = change.Trace name signal in
     let more = trace_versions-trace t kept name signal in
-    IsTables-rises t c (IsTables-trace t name signal kept accepts)
+    IsTables-rises t c (IsTables-trace t name signal kept accepts (Grows-trace t name signal))
     (one_more (λ e. inputs_differ t (carried t c) e.name) (changes_in_all t) (changes_in_all (carried t c)) t.sequences (omega (arith, more)) kept.bases)
 
 -- a draft raises no basis
@@ -26,7 +27,7 @@ unfolding bindings_over
 applied-draft t name text = applied-same t (change.Draft name text) (bindings-draft t name text)
 
 pub IsTables-applied_draft : (t : TablesState) (name text : List ℕ) → IsTables t → Accepts t (change.Draft name text) → IsTables (applied t (change.Draft name text))
-IsTables-applied_draft t name text kept accepts = subst IsTables (sym (applied-draft t name text)) (IsTables-draft t name text kept accepts)
+IsTables-applied_draft t name text kept accepts = subst IsTables (sym (applied-draft t name text)) (IsTables-draft t name text kept accepts (Grows-draft t name text))
 
 pub IsTables-applied_freeze : (t : TablesState) (name : List ℕ) (version : ℕ) → IsTables t → Accepts t (change.Freeze name version) → IsTables (applied t (change.Freeze name version))
 IsTables-applied_freeze t name version kept accepts =
@@ -37,7 +38,7 @@ IsTables-applied_freeze t name version kept accepts =
     let more = method_versions-with t kept name new.draft texts 1 (length-append (texts_of t name) (new.draft ∷ [])) in
     let grown : changes_in_all t + 1 ≤ changes_in_all (carried t c) = rw is (omega (arith, more)) in
     let same : (carried t c).sequences ≡ t.sequences = ap (λ (s : TablesState). s.sequences) is in
-    IsTables-rises t c (IsTables-freeze t name version kept accepts)
+    IsTables-rises t c (IsTables-freeze t name version kept accepts (Grows-frozen t name))
     (one_more (λ e. inputs_differ t (carried t c) e.name) (changes_in_all t) (changes_in_all (carried t c)) (carried t c).sequences grown (subst (All (λ (e : NamedSequence). e.sequence.basis ≤ changes_in_all t)) (sym same) kept.bases))
 
 -- a freeze makes the draft the next version, and raises the bases of those whose inputs it makes others

@@ -54,7 +54,7 @@ module _ {A B : Type 0} (judge : List B → A → Result B PlanError) (back : B 
       }
 
 -- where nothing was done before
-whole : {A B : Type 0} (back : B → A) (Q : B → Type 0) (xs : List A) (r : List B) → Gave back Q [] xs r → (map back r ≡ xs) × All Q r
+pub whole : {A B : Type 0} (back : B → A) (Q : B → Type 0) (xs : List A) (r : List B) → Gave back Q [] xs r → (map back r ≡ xs) × All Q r
 whole back Q xs r g = let same : r ≡ g.made = g.is in subst (λ m. (map back m ≡ xs) × All Q m) (sym same) (g.backs, g.each)
 
 map-self : {A : Type 0} (xs : List A) → map (λ x. x) xs ≡ xs
@@ -69,7 +69,7 @@ standards-same t name standards listed is =
     sym (map-self listed) ∙ g.0
 
 -- an amount that was judged
-abbrev amount_asked : List ℕ × ℕ → List ℕ × ℤ
+abbrev pub amount_asked : List ℕ × ℕ → List ℕ × ℤ
 amount_asked a = (a.0, pos a.1)
 
 abbrev pub AmountWithin : List ℕ × ℕ → Type 0
@@ -87,7 +87,7 @@ amount-one number (name, pos n) y is = by_test (nat_le 1 n && nat_le n MOST_AMOU
         subst (λ (a : List ℕ × ℕ). (amount_asked a ≡ (name, pos n)) × AmountWithin a) same (refl, record { enough = leb-true 1 n parts.0; few = leb-true n MOST_AMOUNT parts.1 })
     by_test false within is = cc
 
-amounts-asked : (number : ℕ) (kind : RowKind) (asked : List (List ℕ × ℤ)) (amounts : List (List ℕ × ℕ)) → amounts_judged number kind asked ≡ Ok amounts → (map amount_asked amounts ≡ asked) × All AmountWithin amounts
+pub amounts-asked : (number : ℕ) (kind : RowKind) (asked : List (List ℕ × ℤ)) (amounts : List (List ℕ × ℕ)) → amounts_judged number kind asked ≡ Ok amounts → (map amount_asked amounts ≡ asked) × All AmountWithin amounts
 unfolding amounts_judged
 amounts-asked number kind asked amounts is =
     let j = judges (must (BadAmount number) (is_standard kind || (length asked == 0))) (λ _. each_judged (λ _. amount_judged number) [] asked) amounts is in

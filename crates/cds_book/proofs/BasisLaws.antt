@@ -40,12 +40,12 @@ inputs_of-applied t c name = ap (option_map (inputs_in (bindings_of (applied t c
     by_found (Some e) = ap (λ (f : List ℕ → Option Listed). Some (record (inputs_in (bindings_of (carried t c)) e.sequence) { standards = filter_map f e.sequence.standards })) (fun_ext (listed_of-applied t c))
 
 -- so inputs differ after a change where they do before the bases rise
-differ-applied : (t : TablesState) (c : Change) (name : List ℕ) → inputs_differ t (applied t c) name ≡ inputs_differ t (carried t c) name
+pub differ-applied : (t : TablesState) (c : Change) (name : List ℕ) → inputs_differ t (applied t c) name ≡ inputs_differ t (carried t c) name
 unfolding inputs_differ
 differ-applied t c name = ap (are_others (inputs_of t name)) (inputs_of-applied t c name)
 
 -- what stands under a name has it
-named-name : (es : List NamedSequence) (name : List ℕ) (e : NamedSequence) → named sequence_name es name ≡ Some e → e.name ≡ name
+pub named-name : (es : List NamedSequence) (name : List ℕ) (e : NamedSequence) → named sequence_name es name ≡ Some e → e.name ≡ name
 named-name [] name e is = cc
 named-name (x ∷ xs) name e is = by_test (bytes_eq x.name name) refl (named-name xs name e)
   where

@@ -38,7 +38,7 @@ turned a b other = elim (cases_Bool (bytes_eq b a)) [
 ]
 
 -- one more version of a trace
-traces-more : (t : TablesState) (name : List ℕ) (signal : Signal) (n : List ℕ) → length (signals_of t n) + (if bytes_eq n name then 1 else 0) ≡ length (signals_of (with_signals t name (signals_of t name ++ signal ∷ [])) n)
+pub traces-more : (t : TablesState) (name : List ℕ) (signal : Signal) (n : List ℕ) → length (signals_of t n) + (if bytes_eq n name then 1 else 0) ≡ length (signals_of (with_signals t name (signals_of t name ++ signal ∷ [])) n)
 traces-more t name signal n =
     let versions = signals_of t name ++ signal ∷ [] in
     let entry : NamedTraces = record { name = name; versions = versions } in
@@ -58,7 +58,7 @@ unfolding bindings_over bindings_of texts_of sequence_of
 bindings-trace t name signal = bindings_eq _ _ _ _ _ _ (traces-more t name signal) (λ n. refl) (λ n. refl)
 
 -- the versions of a method that is put
-methods-put : (t : TablesState) (name draft : List ℕ) (versions : List (List ℕ)) (more : ℕ) → length versions ≡ length (texts_of t name) + more → (n : List ℕ)
+pub methods-put : (t : TablesState) (name draft : List ℕ) (versions : List (List ℕ)) (more : ℕ) → length versions ≡ length (texts_of t name) + more → (n : List ℕ)
     → length (texts_of t n) + (if bytes_eq n name then more else 0) ≡ length (texts_of (with_method t name draft versions) n)
 methods-put t name draft versions more grown n =
     let entry : NamedMethod = record { name = name; draft = draft; versions = versions } in
@@ -119,7 +119,7 @@ bindings-unmade t name None is = refl
 bindings-unmade t name (Some q) is = cc
 
 -- a signature leaves each sequence
-same_sequence : (t : TablesState) (name : List ℕ) (s : Sequence) → sequence_of t name ≡ Some s → (signed : List Signed) (n : List ℕ) → sequence_of t n ≡ sequence_of (with_sequence t name s signed) n
+pub same_sequence : (t : TablesState) (name : List ℕ) (s : Sequence) → sequence_of t name ≡ Some s → (signed : List Signed) (n : List ℕ) → sequence_of t n ≡ sequence_of (with_sequence t name s signed) n
 same_sequence t name s is signed n = elim (cases_Bool (bytes_eq name n)) [
   | inl same ↦ sym (ap (sequence_of t) (same_name name n same)) ∙ is ∙ sym (ap (sequence_of (with_sequence t name s signed)) (sym (same_name name n same)) ∙ sequence_of-with t name s signed)
   | inr other ↦

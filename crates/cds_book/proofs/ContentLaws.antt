@@ -61,7 +61,7 @@ entry-kept t kept name s = by_found (sequence_named t name) refl
     by_found None there is = cc
     by_found (Some e) there is =
         let one : e.sequence ≡ s = cc in
-        subst (λ (q : Sequence). length q.rows ≤ MOST_ROWS) one (named-All (λ (e : NamedSequence). e.name) IsSequenceEntry t.sequences name e kept.sequences.each there).few_rows
+        subst (λ (q : Sequence). length q.rows ≤ MOST_ROWS) one (named-All (λ (e : NamedSequence). e.name) IsSequenceEntry t.sequences name e kept.sequences.each there).rows.ranges.count.few
 
 -- a numbered item has a number from 1 to how many there are
 numbered-within : {X : Type 0} (xs : List X) (n : ℕ) (x : X) → numbered xs n ≡ Some x → (1 ≤ n) × (n ≤ length xs)

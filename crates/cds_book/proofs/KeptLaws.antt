@@ -9,29 +9,23 @@ use Rattle.std.proofs.lemmas.List.Sums.{sum_by-cons}
 use Rattle.cds_base.proofs.NamedLaws.{named-All, All-placed, AreRising-placed, sum_by-placed}
 use Rattle.cds_sign.specs.declared.command.Change.{Change}
 use Rattle.cds_sign.specs.declared.command.Change.TheVariants as change
-use Rattle.cds_sign.specs.declared.limits.TheConstants.{MOST_BASIS, MOST_EDITION, MOST_ROWS, MOST_SIGNATURES}
+use Rattle.cds_sign.specs.declared.limits.TheConstants.{MOST_BASIS, MOST_EDITION, MOST_SIGNATURES}
 use Rattle.cds_sign.specs.declared.sequence.Sequence.{Sequence}
 use Rattle.cds_book.specs.Held.{HeldSequence, sequence_shown, state_held, IsHeld}
 use Rattle.cds_book.specs.Inputs.{bindings_of, inputs_by, inputs_in, inputs_of}
 use Rattle.cds_book.specs.Judged.{edition_of}
-use Rattle.cds_book.specs.Kept.{IsTables, IsSequenceEntry, changes_in_all}
+use Rattle.cds_book.specs.Kept.{IsTables, IsSequenceEntry, AreNumbered, changes_in_all}
 use Rattle.cds_book.specs.Plan.{applied, carried, are_others, basis_of, inputs_differ, sequence_made, sequence_put, with_events, with_sequence, Accepts}
 use Rattle.cds_book.specs.Tables.{NamedSequence, TablesState, sequence_named, sequence_of, signatures_of}
 use Rattle.cds_book.specs.declared.tables.Tables.TheInside.{Inside}
 use Rattle.cds_book.proofs.AcceptedLaws.{basis_of-there, MakesSequence, MakesSignature, MakesSequence-accepted, MakesSignature-accepted}
 use Rattle.cds_book.proofs.AppliedLaws.{IsTables-applied_trace, IsTables-applied_draft, IsTables-applied_freeze}
+use Rattle.cds_book.proofs.FitLaws.{Fits-there, there-entry}
+use Rattle.cds_book.proofs.NumberLaws.{AreNumbered-none, AreNumbered-push}
+use Rattle.cds_book.proofs.ResolvedLaws.{bound-with, listed-with}
 use Rattle.cds_book.proofs.RaisedLaws.{IsTables-rises, IsTables-put, applied-same, bases-put, basis_there, edition_there, no_more, rise}
 use Rattle.cds_book.proofs.SequenceLaws.{sequence_name, sequences-with, rows-with, bytes-with}
 use mir.Val.{bool_byte}
-
--- a sequence that is there stands under its name
-there-entry : (t : TablesState) (name : List ℕ) (s : Sequence) → sequence_of t name ≡ Some s → (e : NamedSequence) × (sequence_named t name ≡ Some e) × (e.sequence ≡ s)
-unfolding sequence_of
-there-entry t name s = by_found (sequence_named t name) refl
-  where
-    by_found : (found : Option NamedSequence) → sequence_named t name ≡ found → option_map (λ (e : NamedSequence). e.sequence) found ≡ Some s → (e : NamedSequence) × (sequence_named t name ≡ Some e) × (e.sequence ≡ s)
-    by_found None there is = cc
-    by_found (Some e) there is = let one : e.sequence ≡ s = cc in (e, there, one)
 
 -- a name has few signatures
 few-signatures : (t : TablesState) → IsTables t → (name : List ℕ) → length (signatures_of t name) ≤ MOST_SIGNATURES
@@ -41,6 +35,15 @@ few-signatures t kept name = by_found (sequence_named t name) refl
     by_found : (found : Option NamedSequence) → sequence_named t name ≡ found → length (unwrap_or (option_map (λ (e : NamedSequence). e.signed) found) []) ≤ MOST_SIGNATURES
     by_found None is = omega arith
     by_found (Some e) is = (named-All sequence_name IsSequenceEntry t.sequences name e kept.sequences.each is).few_signed
+
+-- which are numbered
+numbers-signatures : (t : TablesState) → IsTables t → (name : List ℕ) → AreNumbered (signatures_of t name)
+unfolding signatures_of
+numbers-signatures t kept name = by_found (sequence_named t name) refl
+  where
+    by_found : (found : Option NamedSequence) → sequence_named t name ≡ found → AreNumbered (unwrap_or (option_map (λ (e : NamedSequence). e.signed) found) [])
+    by_found None is = AreNumbered-none
+    by_found (Some e) is = (named-All sequence_name IsSequenceEntry t.sequences name e kept.sequences.each is).numbers
 
 -- the inputs of a new sequence are no others than before
 differs-new : (t s : TablesState) (name : List ℕ) → sequence_of t name ≡ None → inputs_differ t s name ≡ false
@@ -54,10 +57,10 @@ IsTables-made t kept c name m =
     let signed = few-signatures t kept name in
     let seen = m.few_edition in
     let next = m.edition in
-    let entry : IsSequenceEntry (record { name = name; sequence = m.made; signed = signatures_of t name }) = record { edition = omega (arith, seen, next); few_rows = m.few_rows; few_signed = signed } in
+    let entry : IsSequenceEntry (record { name = name; sequence = m.made; signed = signatures_of t name }) = record { edition = omega (arith, seen, next); rows = m.fits.rows; standards = m.fits.standards; few_signed = signed; numbers = numbers-signatures t kept name } in
     let bytes = bytes-with t kept name m.made (signatures_of t name) in
     let few_bytes = kept.sequences.few_bytes in
-    let put = IsTables-put t kept name m.made m.edition m.basis entry m.few m.few_in_all (omega (arith, bytes, few_bytes)) in
+    let put = IsTables-put t kept name m.made m.edition m.basis entry (bound-with t kept name m.made (signatures_of t name) m.fits) (listed-with t kept name m.made (signatures_of t name) m.fits) m.few m.few_in_all (omega (arith, bytes, few_bytes)) in
     let bases = bases-put t kept name m.made m.edition m.basis d (differs-new t (carried t c) name) in
     IsTables-rises t c (subst IsTables (sym m.carried_is) put)
     (subst (λ (s : TablesState). All (λ (e : NamedSequence). e.sequence.basis + rise (d e.name) ≤ changes_in_all s) s.sequences) (sym m.carried_is) bases)
@@ -73,11 +76,17 @@ IsTables-signed t kept c name m =
     let found = there-entry t name s m.there in
     let kept_one = named-All sequence_name IsSequenceEntry t.sequences name found.0 kept.sequences.each found.1 in
     let edition = subst (λ (q : Sequence). q.edition ≤ MOST_EDITION + 1) found.2 kept_one.edition in
-    let rows = subst (λ (q : Sequence). length q.rows ≤ MOST_ROWS) found.2 kept_one.few_rows in
+    let fits = Fits-there t kept name s m.there in
     let basis = subst (λ (q : Sequence). q.basis ≤ changes_in_all t) found.2 (named-All sequence_name (λ (e : NamedSequence). e.sequence.basis ≤ changes_in_all t) t.sequences name found.0 kept.bases found.1) in
     let more = length-append (signatures_of t name) (m.signed ∷ []) in
     let few_signed = m.few in
-    let entry_kept : IsSequenceEntry entry = record { edition = edition; few_rows = rows; few_signed = omega (arith, more, few_signed) } in
+    let entry_kept : IsSequenceEntry entry = record {
+      edition = edition;
+      rows = fits.rows;
+      standards = fits.standards;
+      few_signed = omega (arith, more, few_signed);
+      numbers = AreNumbered-push (signatures_of t name) m.signed (numbers-signatures t kept name) m.number;
+    } in
     let many = sequences-with t kept name s signed in
     let old : bool_byte (not (is_some (sequence_of t name))) ≡ 0 = ap (λ (o : Option Sequence). bool_byte (not (is_some o))) m.there in
     let few = kept.sequences.few in
@@ -100,6 +109,8 @@ IsTables-signed t kept c name m =
       bases = All-placed sequence_name (λ (e : NamedSequence). e.sequence.basis ≤ changes_in_all after) t.sequences entry
           (no_more (changes_in_all t) (changes_in_all after) t.sequences (omega (arith, same)) kept.bases)
           (omega (arith, basis, same));
+      bound = bound-with t kept name s signed fits;
+      listed = listed-with t kept name s signed fits;
     } in
     subst IsTables (sym (applied-same t c m.same ∙ m.carried_is)) all
 

@@ -7,11 +7,15 @@ pub mod AskedLaws
 pub mod BindingLaws
 pub mod RaisedLaws
 pub mod VersionLaws
+pub mod NumberLaws
+pub mod GrownLaws
 pub mod TraceLaws
 pub mod MethodLaws
 pub mod AppliedLaws
 pub mod PlanLaws
 pub mod ContentLaws
+pub mod FitLaws
+pub mod ResolvedLaws
 pub mod AcceptedLaws
 pub mod KeptLaws
 pub mod SignedLaws

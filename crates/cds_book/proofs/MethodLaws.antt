@@ -18,6 +18,7 @@ use Rattle.cds_book.specs.declared.error.PlanError.TheVariants.{NoMethod, Number
 use Rattle.cds_book.specs.declared.limits.TheConstants.{MOST_METHODS, MOST_METHOD_VERSIONS}
 use Rattle.cds_sign.specs.declared.limits.TheConstants.{MOST_VERSIONS}
 use Rattle.cds_base.proofs.NamedLaws.{named-placed, named-All, All-placed, AreRising-placed, sum_by-placed, length-placed}
+use Rattle.cds_book.proofs.GrownLaws.{Grows, AreBound-grown, AreListed-grown}
 use Rattle.cds_book.proofs.RaisedLaws.{no_more}
 use Rattle.cds_book.proofs.LookLaws.{draft_of-found, texts_of-found}
 use Rattle.cds_book.proofs.VersionLaws.{AreChanges-push, AreChanges-none, AreWithin, AreWithin-none, unless_full-ok}
@@ -132,8 +133,8 @@ pub counts-draft : (t : TablesState) → IsTables t → (name text : List ℕ) �
 counts-draft t kept name text = rw (methods-with t kept name text (texts_of t name)) refl
 
 -- all rules are kept when an accepted draft is put
-pub IsTables-draft : (t : TablesState) (name text : List ℕ) → IsTables t → Accepts t (change.Draft name text) → IsTables (carried t (change.Draft name text))
-IsTables-draft t name text kept accepts =
+pub IsTables-draft : (t : TablesState) (name text : List ℕ) → IsTables t → Accepts t (change.Draft name text) → Grows t (with_method t name text (texts_of t name)) → IsTables (carried t (change.Draft name text))
+IsTables-draft t name text kept accepts grows =
     let versions = texts_of t name in
     let entry : NamedMethod = record { name = name; draft = text; versions = versions } in
     let after = with_method t name text versions in
@@ -166,6 +167,8 @@ IsTables-draft t name text kept accepts =
       };
       sequences = kept.sequences;
       bases = no_more (changes_in_all t) (changes_in_all after) t.sequences (omega (arith, same)) kept.bases;
+      bound = AreBound-grown t after grows t.sequences kept.bound;
+      listed = AreListed-grown t after grows t.sequences kept.listed;
     } in
     subst IsTables (sym is) all
 
@@ -251,8 +254,8 @@ IsNewText-accepted t name version accepts = by_draft (draft_of t name) refl
     ]
 
 -- all rules are kept when an accepted freeze is carried out
-pub IsTables-freeze : (t : TablesState) (name : List ℕ) (version : ℕ) → IsTables t → Accepts t (change.Freeze name version) → IsTables (carried t (change.Freeze name version))
-IsTables-freeze t name version kept accepts =
+pub IsTables-freeze : (t : TablesState) (name : List ℕ) (version : ℕ) → IsTables t → Accepts t (change.Freeze name version) → ((draft : List ℕ) → Grows t (with_method t name draft (texts_of t name ++ draft ∷ []))) → IsTables (carried t (change.Freeze name version))
+IsTables-freeze t name version kept accepts frozen =
     let new = IsNewText-accepted t name version accepts in
     let texts = texts_of t name ++ new.draft ∷ [] in
     let entry : NamedMethod = record { name = name; draft = new.draft; versions = texts } in
@@ -278,5 +281,7 @@ IsTables-freeze t name version kept accepts =
       };
       sequences = kept.sequences;
       bases = let more = method_versions-with t kept name new.draft texts 1 (length-append (texts_of t name) (new.draft ∷ [])) in no_more (changes_in_all t) (changes_in_all after) t.sequences (omega (arith, more)) kept.bases;
+      bound = AreBound-grown t after (frozen new.draft) t.sequences kept.bound;
+      listed = AreListed-grown t after (frozen new.draft) t.sequences kept.listed;
     } in
     subst IsTables (sym is) all

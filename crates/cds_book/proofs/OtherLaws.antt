@@ -17,7 +17,7 @@ use Rattle.cds_book.proofs.MethodLaws.{method_name}
 use Rattle.cds_book.proofs.StayLaws.{leaves-sequence, leaves-events, leaves-rebind, leaves-sign}
 
 -- names that are two don't pass the test
-bytes_eq-other : (put name : List ℕ) → name ≢ put → bytes_eq put name ≡ false
+pub bytes_eq-other : (put name : List ℕ) → name ≢ put → bytes_eq put name ≡ false
 bytes_eq-other put name differs = elim (cases_Bool (bytes_eq put name)) [
   | inl same ↦ absurd (differs (sym ((bytes_eq-Decides put name).0 same)))
   | inr other ↦ other

@@ -1,6 +1,6 @@
 -- The rules are kept where bases rise after a change.
 use Rattle.std.proofs.Common.{◌≡◌, ◌∙◌, ℕ, ◌+◌, ◌≤◌, Bool, true, false, List, [], ◌∷◌, length, map, Option, Some, None, option_map, refl, sym, ap, ap₂, subst, arith}
-use Rattle.std.specs.Prelude.{All, not, if◌then◌else◌}
+use Rattle.std.specs.Prelude.{All, IsSome, not, if◌then◌else◌}
 use Rattle.std.specs.List.{sum_by}
 use Rattle.std.specs.Option.{option_map_or}
 use Rattle.std.proofs.lemmas.List.{length-map}
@@ -8,17 +8,18 @@ use Rattle.std.proofs.lemmas.List.Elements.{All-nil, All-cons, All-head, All-tai
 use Rattle.std.proofs.lemmas.List.Sums.{sum_by-cons}
 use Rattle.std.proofs.lemmas.Simd.{map-map}
 use Rattle.cds_base.specs.Named.{AreRising}
-use Rattle.cds_base.proofs.NamedLaws.{named-All, All-placed, AreRising-placed, sum_by-placed}
+use Rattle.cds_base.proofs.NamedLaws.{named-map, named-All, All-placed, AreRising-placed, sum_by-placed}
 use Rattle.cds_sign.specs.declared.command.Change.{Change}
 use Rattle.cds_sign.specs.declared.inputs.Inputs.{Inputs}
 use Rattle.cds_sign.specs.declared.sequence.Sequence.{Sequence}
 use Rattle.cds_sign.specs.declared.signed.Signed.{Signed}
 use Rattle.cds_book.specs.Inputs.{bindings_of, inputs_by}
 use Rattle.cds_book.specs.Judged.{edition_of}
-use Rattle.cds_book.specs.Kept.{IsTables, IsSequenceEntry, changes_in_all, trace_versions_in_all, method_versions_in_all, rows_in_all, signed_bytes_in_all}
+use Rattle.cds_book.specs.Kept.{IsTables, IsSequenceEntry, IsBound, AreBound, AreThere, AreListed, changes_in_all, trace_versions_in_all, method_versions_in_all, rows_in_all, signed_bytes_in_all}
 use Rattle.cds_book.specs.Plan.{applied, carried, raised, inputs_differ, are_others, basis_of, with_sequence}
-use Rattle.cds_book.specs.Tables.{NamedSequence, TablesState, sequence_named, sequence_of, signatures_of}
+use Rattle.cds_book.specs.Tables.{NamedSequence, TablesState, sequence_named, sequence_of, signals_of, signatures_of, texts_of}
 use Rattle.cds_book.specs.declared.limits.TheConstants.{MOST_SEQUENCES, MOST_ROWS_IN_ALL, MOST_SIGNED_BYTES}
+use Rattle.cds_book.proofs.GrownLaws.{Grows, AreBound-grown, AreListed-grown}
 use Rattle.cds_book.proofs.SameLaws.{same_inputs-Decides}
 use Rattle.cds_book.proofs.SequenceLaws.{sequence_name}
 
@@ -36,6 +37,10 @@ sum_by-mapped f g h same (x ∷ xs) = sum_by-cons f (g x) (map g xs) ∙ ap₂ (
 abbrev pub rise : Bool → ℕ
 rise b = if b then 1 else 0
 
+-- a number is no less than itself
+no_less : (n : ℕ) → n ≤ n
+no_less n = omega arith
+
 module _ (t : TablesState) (kept : IsTables t) (d : List ℕ → Bool) where
   -- the tables with each basis raised as told
   abbrev raised_tables : TablesState
@@ -43,6 +48,19 @@ module _ (t : TablesState) (kept : IsTables t) (d : List ℕ → Bool) where
 
   same_changes : changes_in_all raised_tables ≡ changes_in_all t
   same_changes = ap (λ n. n + (trace_versions_in_all t.traces + method_versions_in_all t.methods)) (sum_by-mapped (λ (e : NamedSequence). e.sequence.edition) (λ (e : NamedSequence). raised (d e.name) e) (λ (e : NamedSequence). e.sequence.edition) (λ e. refl) t.sequences)
+
+  -- each sequence is still there, and no version is gone
+  there-raised : (name : List ℕ) → IsSome (sequence_of t name) → IsSome (sequence_of raised_tables name)
+  unfolding sequence_of
+  there-raised name there = subst (λ (o : Option NamedSequence). IsSome (option_map (λ (e : NamedSequence). e.sequence) o)) (sym (named-map (λ (e : NamedSequence). raised (d e.name) e) sequence_name t.sequences name)) (by_found (sequence_named t name) there)
+    where
+      by_found : (found : Option NamedSequence) → IsSome (option_map (λ (e : NamedSequence). e.sequence) found) → IsSome (option_map (λ (e : NamedSequence). e.sequence) (option_map (λ (e : NamedSequence). raised (d e.name) e) found))
+      by_found None there = there
+      by_found (Some e) there = refl
+
+  Grows-raised : Grows t raised_tables
+  unfolding signals_of texts_of
+  Grows-raised = record { traces = λ name. no_less (length (signals_of t name)); methods = λ name. no_less (length (texts_of t name)); sequences = there-raised }
 
   pub IsTables-raised : All (λ (e : NamedSequence). e.sequence.basis + rise (d e.name) ≤ changes_in_all t) t.sequences → IsTables raised_tables
   IsTables-raised bases =
@@ -53,12 +71,15 @@ module _ (t : TablesState) (kept : IsTables t) (d : List ℕ → Bool) where
         methods = kept.methods;
         sequences = record {
           names = subst AreRising (sym (map-map sequence_name g t.sequences)) ks.names;
-          each = All-map IsSequenceEntry g t.sequences (All-mono IsSequenceEntry (λ e. IsSequenceEntry (g e)) (λ e h. record { edition = h.edition; few_rows = h.few_rows; few_signed = h.few_signed }) t.sequences ks.each);
+          each = All-map IsSequenceEntry g t.sequences (All-mono IsSequenceEntry (λ e. IsSequenceEntry (g e)) (λ e h. record { edition = h.edition; rows = h.rows; standards = h.standards; few_signed = h.few_signed; numbers = h.numbers }) t.sequences ks.each);
           few = let same = length-map t.sequences g in let few = ks.few in omega (arith, same, few);
           few_rows = let same = sum_by-mapped (λ (e : NamedSequence). length e.sequence.rows) g (λ (e : NamedSequence). length e.sequence.rows) (λ e. refl) t.sequences in let few = ks.few_rows in omega (arith, same, few);
           few_bytes = let same = sum_by-mapped (λ (e : NamedSequence). sum_by (λ (s : Signed). length s.text) e.signed) g (λ (e : NamedSequence). sum_by (λ (s : Signed). length s.text) e.signed) (λ e. refl) t.sequences in let few = ks.few_bytes in omega (arith, same, few);
         };
         bases = All-map (λ (e : NamedSequence). e.sequence.basis ≤ changes_in_all raised_tables) g t.sequences (All-mono (λ (e : NamedSequence). e.sequence.basis + rise (d e.name) ≤ changes_in_all t) (λ (e : NamedSequence). (g e).sequence.basis ≤ changes_in_all raised_tables) (λ e h. omega (arith, h, same_changes)) t.sequences bases);
+        bound = All-map (λ (e : NamedSequence). IsBound raised_tables e.sequence) g t.sequences (All-mono (λ (e : NamedSequence). IsBound raised_tables e.sequence) (λ (e : NamedSequence). IsBound raised_tables (g e).sequence) (λ e h. record { method = h.method; rows = h.rows }) t.sequences
+            (AreBound-grown t raised_tables Grows-raised t.sequences kept.bound));
+        listed = All-map (λ (e : NamedSequence). AreThere raised_tables e.sequence.standards) g t.sequences (AreListed-grown t raised_tables Grows-raised t.sequences kept.listed);
       }
 
 -- a rise is by one at most
@@ -79,7 +100,7 @@ pub no_more : (n m : ℕ) (es : List NamedSequence) → n ≤ m → All (λ (e :
 no_more n m es grown bases = All-mono (λ (e : NamedSequence). e.sequence.basis ≤ n) (λ (e : NamedSequence). e.sequence.basis ≤ m) (λ e h. omega (arith, h, grown)) es bases
 
 -- inputs don't differ from themselves
-others-self : (o : Option Inputs) → are_others o o ≡ false
+pub others-self : (o : Option Inputs) → are_others o o ≡ false
 others-self None = refl
 others-self (Some i) = ap not ((same_inputs-Decides i i).1 refl)
 
@@ -144,8 +165,8 @@ module _ (t : TablesState) (kept : IsTables t) (name : List ℕ) (s : Sequence) 
       (one_more (λ e. d e.name) (changes_in_all t) (changes_in_all put_tables) t.sequences (omega (arith, more)) kept.bases)
       (omega (arith, own, same, more))
 
-  pub IsTables-put : IsSequenceEntry put_entry → length put_tables.sequences ≤ MOST_SEQUENCES → rows_in_all put_tables.sequences ≤ MOST_ROWS_IN_ALL → signed_bytes_in_all put_tables.sequences ≤ MOST_SIGNED_BYTES → IsTables put_tables
-  IsTables-put entry few few_rows few_bytes =
+  pub IsTables-put : IsSequenceEntry put_entry → AreBound put_tables → AreListed put_tables → length put_tables.sequences ≤ MOST_SEQUENCES → rows_in_all put_tables.sequences ≤ MOST_ROWS_IN_ALL → signed_bytes_in_all put_tables.sequences ≤ MOST_SIGNED_BYTES → IsTables put_tables
+  IsTables-put entry bound listed few few_rows few_bytes =
       let own = basis_there t kept name false (λ _. refl) in
       let more = changes-put in
       record {
@@ -161,4 +182,6 @@ module _ (t : TablesState) (kept : IsTables t) (name : List ℕ) (s : Sequence) 
         bases = All-placed sequence_name (λ (e : NamedSequence). e.sequence.basis ≤ changes_in_all put_tables) t.sequences put_entry
             (no_more (changes_in_all t) (changes_in_all put_tables) t.sequences (omega (arith, more)) kept.bases)
             (omega (arith, own, same, more));
+        bound = bound;
+        listed = listed;
       }

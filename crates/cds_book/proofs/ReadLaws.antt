@@ -8,7 +8,7 @@ use Rattle.cds_book.specs.Tables.{NamedTraces, TablesState, numbered, trace_of, 
 use Rattle.cds_sign.specs.declared.command.Change.TheVariants as change
 use Rattle.cds_base.proofs.NamedLaws.{named-placed}
 use Rattle.cds_book.proofs.LookLaws.{trace_of-found, method_of-found}
-use Rattle.cds_book.proofs.VersionLaws.{latest-push}
+use Rattle.cds_book.proofs.NumberLaws.{numbered-push}
 use Rattle.cds_book.proofs.TraceLaws.{trace_name, carried-trace}
 use Rattle.cds_book.proofs.MethodLaws.{method_named-with, draft_of-with, carried-draft, carried-freeze, IsNewText-accepted}
 use Rattle.cds_book.proofs.StayLaws.{trace_versions_of-signals}
@@ -16,13 +16,6 @@ use Rattle.cds_book.proofs.StayLaws.{trace_versions_of-signals}
 -- a draft that was put is read back
 pub draft_of-carried : (t : TablesState) (name text : List ℕ) → draft_of (carried t (change.Draft name text)) name ≡ Some text
 draft_of-carried t name text = rw (carried-draft t name text) (draft_of-with t name text (texts_of t name))
-
--- a further version has the next number
-pub numbered-push : {X : Type 0} (versions : List X) (x : X) → numbered (versions ++ x ∷ []) (length versions + 1) ≡ Some x
-numbered-push versions x =
-    let some : (length versions + 1 == 0) ≡ false = grind (arith, nat_tests) in
-    let at : length (versions ++ x ∷ []) - 1 ≡ length versions + 1 - 1 = omega (arith, length-append versions (x ∷ [])) in
-    rw some (subst (λ n. slice_get (versions ++ x ∷ []) n ≡ Some x) at (latest-push versions x))
 
 -- a trace that was put is read back under the next number of its name
 pub trace_of-carried : (t : TablesState) (name : List ℕ) (signal : Signal) → trace_of (carried t (change.Trace name signal)) name (unwrap_or (trace_versions_of t name) 0 + 1) ≡ Some signal

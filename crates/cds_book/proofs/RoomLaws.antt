@@ -6,7 +6,7 @@ use Rattle.std.proofs.Math.Seq.{map-set_same}
 use Rattle.std.specs.List.Sorted.{IsStrictlySortedBy}
 use Rattle.std.proofs.lemmas.List.Elements.{All-nil}
 use Rattle.cds_book.specs.Held.{HeldTraces, HeldMethod, HeldSequence, held_name, traces_shown, method_shown, sequence_shown, room_shown, state_held, tables_held, IsHeld, HasRoom, IsTraceAt, IsMethodAt, IsMethodGap}
-use Rattle.cds_book.specs.Kept.{IsTables, IsTraceEntry, IsMethodEntry, IsSequenceEntry, trace_versions_in_all, samples_in_all, method_versions_in_all, changes_in_all}
+use Rattle.cds_book.specs.Kept.{IsTables, IsTraceEntry, IsMethodEntry, IsSequenceEntry, IsBound, AreThere, trace_versions_in_all, samples_in_all, method_versions_in_all, changes_in_all}
 use Rattle.cds_base.specs.Named.{StandsAt, IsGapAt}
 use Rattle.cds_book.specs.Plan.{sequence_made, Accepts}
 use Rattle.cds_book.specs.Raising.{Makes, Signs}
@@ -126,6 +126,8 @@ IsTables-empty = record {
   methods = record { names = tt; each = All-nil IsMethodEntry; few = omega arith; few_versions = omega arith };
   sequences = record { names = tt; few = omega arith; few_rows = omega arith; few_bytes = omega arith; each = All-nil IsSequenceEntry };
   bases = All-nil (λ (e : NamedSequence). e.sequence.basis ≤ changes_in_all empty_tables);
+  bound = All-nil (λ (e : NamedSequence). IsBound empty_tables e.sequence);
+  listed = All-nil (λ (e : NamedSequence). AreThere empty_tables e.sequence.standards);
 }
 
 pub IsHeld-empty : (a : Inside) → a.traces.entries.items ≡ [] → a.methods.entries.items ≡ [] → a.sequences.entries.items ≡ [] → a.trace_versions ≡ 0 → a.samples ≡ 0 → a.method_versions ≡ 0 → a.room ≡ None → IsHeld a

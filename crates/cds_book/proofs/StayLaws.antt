@@ -18,25 +18,10 @@ use Rattle.cds_sign.specs.declared.sequence.Sequence.{Sequence}
 use Rattle.cds_sign.specs.declared.signed.Signed.{Signed}
 use Rattle.cds_sign.specs.declared.command.Change.TheVariants as change
 use Rattle.cds_base.proofs.NamedLaws.{named-placed, named-placed_other}
+use Rattle.cds_book.proofs.NumberLaws.{numbered-append}
 use Rattle.cds_book.proofs.LookLaws.{trace_of-found, trace_versions_of-found, method_of-found, method_versions_of-found}
 use Rattle.cds_book.proofs.TraceLaws.{trace_name, carried-trace}
 use Rattle.cds_book.proofs.MethodLaws.{method_name, method_named-with, carried-draft, carried-freeze, IsNewText-accepted}
-
--- an item of a list with more behind it
-slice_get-append : {X : Type 0} (xs ys : List X) (i : ℕ) (x : X) → slice_get xs i ≡ Some x → slice_get (xs ++ ys) i ≡ Some x
-slice_get-append xs ys i x is =
-    let below : i < length xs = slice_get_within xs i x is in
-    let long : i < length (xs ++ ys) = omega (arith, length-append xs ys) in
-    let here : Some (get_or xs i x) ≡ Some x = sym (slice_get-get_or xs i x below) ∙ is in
-    slice_get-get_or (xs ++ ys) i x long ∙ ap Some (get_or_append_left xs ys x i below) ∙ here
-
--- a version stays with more versions behind it
-pub numbered-append : {X : Type 0} (versions more : List X) (number : ℕ) (x : X) → numbered versions number ≡ Some x → numbered (versions ++ more) number ≡ Some x
-numbered-append versions more number x = by_test (number == 0)
-  where
-    by_test : (b : Bool) → (if b then None else slice_get versions (number - 1)) ≡ Some x → (if b then None else slice_get (versions ++ more) (number - 1)) ≡ Some x
-    by_test true is = cc
-    by_test false is = slice_get-append versions more (number - 1) x is
 
 -- a version of a trace is one of the versions of its name
 signals_of-version : (t : TablesState) (name : List ℕ) (version : ℕ) (signal : Signal) → trace_of t name version ≡ Some signal → numbered (signals_of t name) version ≡ Some signal

@@ -22,7 +22,7 @@ use Rattle.cds_book.proofs.AcceptedLaws.{MakesSequence-accepted}
 use Rattle.cds_book.proofs.AgainLaws.{sequence_of-made}
 use Rattle.cds_book.proofs.LookLaws.{signatures_of-found}
 use Rattle.cds_book.proofs.SequenceLaws.{sequence_name, signatures_of-with}
-use Rattle.cds_book.proofs.StayLaws.{numbered-append}
+use Rattle.cds_book.proofs.NumberLaws.{numbered-append}
 
 -- a sequence that was put is read back, with its new basis
 pub sequence_of-put : (t : TablesState) (name : List ℕ) (edition : ℕ) (method : List ℕ) (version : ℕ) (standards : List (List ℕ)) (rows : List Row)

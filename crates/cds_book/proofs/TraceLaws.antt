@@ -16,6 +16,7 @@ use Rattle.cds_book.specs.declared.limits.TheConstants.{MOST_TRACE_NAMES, MOST_T
 use Rattle.cds_sign.specs.declared.limits.TheConstants.{MOST_VERSIONS}
 use Rattle.cds_base.proofs.NamedLaws.{named-placed, named-All, All-placed, AreRising-placed, sum_by-placed, length-placed}
 use Rattle.cds_book.proofs.LookLaws.{signals_of-found}
+use Rattle.cds_book.proofs.GrownLaws.{Grows, AreBound-grown, AreListed-grown}
 use Rattle.cds_book.proofs.RaisedLaws.{no_more}
 use Rattle.cds_book.proofs.VersionLaws.{same_signal-Decides, AreChanges-push, AreChanges-none, AreWithin, AreWithin-none, unless_full-ok}
 
@@ -145,8 +146,8 @@ few_signals t kept name = by_found (traces_named t name) refl
     by_found (Some e) is = (named-All trace_name IsTraceEntry t.traces name e kept.traces.each is).few
 
 -- all rules are kept when an accepted trace is put
-pub IsTables-trace : (t : TablesState) (name : List ℕ) (signal : Signal) → IsTables t → Accepts t (change.Trace name signal) → IsTables (carried t (change.Trace name signal))
-IsTables-trace t name signal kept accepts =
+pub IsTables-trace : (t : TablesState) (name : List ℕ) (signal : Signal) → IsTables t → Accepts t (change.Trace name signal) → Grows t (with_signals t name (signals_of t name ++ signal ∷ [])) → IsTables (carried t (change.Trace name signal))
+IsTables-trace t name signal kept accepts grows =
     let new = IsNewTrace-accepted t name signal accepts in
     let versions = signals_of t name ++ signal ∷ [] in
     let entry : NamedTraces = record { name = name; versions = versions } in
@@ -170,5 +171,7 @@ IsTables-trace t name signal kept accepts =
       methods = kept.methods;
       sequences = kept.sequences;
       bases = let more = trace_versions-trace t kept name signal in no_more (changes_in_all t) (changes_in_all after) t.sequences (omega (arith, more)) kept.bases;
+      bound = AreBound-grown t after grows t.sequences kept.bound;
+      listed = AreListed-grown t after grows t.sequences kept.listed;
     } in
     subst IsTables (sym is) all

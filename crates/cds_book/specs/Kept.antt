@@ -1,10 +1,16 @@
 -- What all tables keep, whatever was done to them. This project's own.
-use Rattle.std.specs.Prelude.{◌≢◌, ℕ, ◌+◌, ◌≤◌, List, All, IsTrue, is_ok, length, map, sum_by}
-use Rattle.std.specs.List.{AllAdjacentBelow}
+use Rattle.std.specs.Prelude.{◌≡◌, ◌≢◌, ◌⊎◌, ℕ, ◌+◌, ◌≤◌, List, [], All, IfSome, IsSome, IsTrue, is_ok, length, map, sum_by}
+use Rattle.std.specs.List.{AllAdjacentBelow, IsDistinct}
+use Rattle.std.specs.Str.{bytes_eq}
 use Rattle.cds_rules.specs.Stated.{stated}
 use Rattle.cds_base.specs.Named.{AreRising}
-use Rattle.cds_sign.specs.declared.limits.TheConstants.{MOST_EDITION, MOST_ROWS, MOST_VERSIONS, MOST_SIGNATURES}
-use Rattle.cds_book.specs.Tables.{NamedTraces, NamedMethod, NamedSequence, TablesState}
+use Rattle.cds_sign.specs.Ranges.{AreRows, AreStandards, IsRow}
+use Rattle.cds_sign.specs.declared.limits.TheConstants.{MOST_EDITION, MOST_VERSIONS, MOST_SIGNATURES}
+use Rattle.cds_sign.specs.declared.row.Row.{Row}
+use Rattle.cds_sign.specs.declared.sequence.Sequence.{Sequence}
+use Rattle.cds_sign.specs.declared.signed.Signed.{Signed}
+use Rattle.cds_book.specs.Inputs.{is_standard}
+use Rattle.cds_book.specs.Tables.{NamedTraces, NamedMethod, NamedSequence, TablesState, numbered, sequence_of, signals_of, texts_of}
 use Rattle.cds_book.specs.declared.limits.TheConstants.{MOST_TRACE_NAMES, MOST_TRACE_VERSIONS, MOST_SAMPLES_IN_ALL, MOST_METHODS, MOST_METHOD_VERSIONS, MOST_SEQUENCES, MOST_ROWS_IN_ALL, MOST_SIGNED_BYTES}
 
 -- a version is never equal to the one before it
@@ -69,11 +75,50 @@ abbrev pub changes_in_all : TablesState → ℕ
 changes_in_all tables =
     sum_by (λ (entry : NamedSequence). entry.sequence.edition) tables.sequences + (trace_versions_in_all tables.traces + method_versions_in_all tables.methods)
 
--- what is kept of a sequence: it has at most 200 rows and at most 100 signatures, and its edition is at most 2^32
+-- a version that is bound is there: there is one at all, and the one that is named is no later than the latest
+abbrev pub Resolves : ℕ → ℕ → Type 0
+Resolves count version = (1 ≤ count) × (version ≤ count)
+
+-- what a sequence binds is there: the version of its method, and that of the trace of each row
+pub record IsBound (tables : TablesState) (sequence : Sequence) : Type 0 where
+  pub method : Resolves (length (texts_of tables sequence.method)) sequence.version
+  pub rows : All (λ (row : Row). Resolves (length (signals_of tables row.trace)) row.version) sequence.rows
+
+-- what each sequence of the tables binds is there
+abbrev pub AreBound : TablesState → Type 0
+AreBound tables = All (λ (entry : NamedSequence). IsBound tables entry.sequence) tables.sequences
+
+-- the sequences of these names are there
+abbrev pub AreThere : TablesState → List (List ℕ) → Type 0
+AreThere tables names = All (λ (name : List ℕ). IsSome (sequence_of tables name)) names
+
+-- the sequences that each sequence of the tables lists are there
+abbrev pub AreListed : TablesState → Type 0
+AreListed tables = All (λ (entry : NamedSequence). AreThere tables entry.sequence.standards) tables.sequences
+
+-- a row states amounts only if it is a standard
+abbrev pub HasOwnAmounts : Row → Type 0
+HasOwnAmounts row = (row.amounts ≡ []) ⊎ IsTrue (is_standard row.kind)
+
+-- what is kept of the rows of a sequence: there are 1 to 200, each of whose parts is in its range, no two have one label,
+-- and standards alone state amounts
+pub record AreKeptRows (rows : List Row) : Type 0 where
+  pub ranges : AreRows IsRow rows
+  pub labels : IsDistinct bytes_eq (map (λ (row : Row). row.label) rows)
+  pub amounts : All HasOwnAmounts rows
+
+-- signatures are numbered in their order, from 1
+abbrev pub AreNumbered : List Signed → Type 0
+AreNumbered signed = (number : ℕ) → IfSome (numbered signed number) (λ s. s.number ≡ number)
+
+-- what is kept of a sequence: its edition is at most 2^32, its rows are kept, it lists 1 to 8 sequences, none of them
+-- twice, and it has at most 100 signatures, which are numbered
 pub record IsSequenceEntry (entry : NamedSequence) : Type 0 where
   pub edition : entry.sequence.edition ≤ MOST_EDITION + 1
-  pub few_rows : length entry.sequence.rows ≤ MOST_ROWS
+  pub rows : AreKeptRows entry.sequence.rows
+  pub standards : AreStandards entry.sequence.standards
   pub few_signed : length entry.signed ≤ MOST_SIGNATURES
+  pub numbers : AreNumbered entry.signed
 
 -- and of all sequences
 pub record IsSequences (sequences : List NamedSequence) : Type 0 where
@@ -83,9 +128,12 @@ pub record IsSequences (sequences : List NamedSequence) : Type 0 where
   pub few_rows : rows_in_all sequences ≤ MOST_ROWS_IN_ALL
   pub few_bytes : signed_bytes_in_all sequences ≤ MOST_SIGNED_BYTES
 
--- what all tables keep; the number of a basis is at most the number of all changes
+-- what all tables keep: what sequences bind and list is there, and the number of a basis is at most the number of all
+-- changes
 pub record IsTables (tables : TablesState) : Type 0 where
   pub traces : IsTraces tables.traces
   pub methods : IsMethods tables.methods
   pub sequences : IsSequences tables.sequences
   pub bases : All (λ (entry : NamedSequence). entry.sequence.basis ≤ changes_in_all tables) tables.sequences
+  pub bound : AreBound tables
+  pub listed : AreListed tables
