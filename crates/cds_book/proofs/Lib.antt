@@ -25,6 +25,7 @@ pub mod BasisLaws
 pub mod StayLaws
 pub mod ReadLaws
 pub mod OtherLaws
+pub mod OtherSequences
 pub mod AfterLaws
 pub mod HeldLaws
 pub mod PutLaws

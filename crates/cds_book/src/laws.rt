@@ -1,10 +1,12 @@
 //! Laws of the tables. Each is proved by its contract, and its body does nothing.
-ghost use Rattle.std.specs.Prelude.{option_map, if◌then◌else◌, ◌≤◌, ◌≡◌, ◌≢◌, ℕ, ◌+◌, List, Ok, Some, unwrap_or};
+ghost use Rattle.std.specs.Prelude.{option_map, if◌then◌else◌, ◌≤◌, ◌≡◌, ◌≢◌, ℕ, ◌+◌, List, [], ◌∷◌, Ok, Some, None, unwrap_or};
 ghost use Rattle.cds_trace.specs.Signal.{Signal};
 ghost use Rattle.cds_book.specs.Kept.{IsTables};
 ghost use Rattle.cds_book.specs.Plan.{planned, applied, carried, command_of, trace_changed, method_changed, Accepts};
 ghost use Rattle.cds_book.specs.Plan.{basis_of, inputs_differ, sequence_changed, sequence_put};
-ghost use Rattle.cds_book.specs.Judged.{edition_of};
+ghost use Rattle.cds_book.specs.Judged.{edition_of, sign_judged, standards_judged};
+ghost use Rattle.cds_sign.specs.Ranges.{IsChange};
+ghost use Rattle.cds_book.specs.declared.command.SignPlan.TheVariants as sign;
 ghost use Rattle.cds_book.specs.Tables.{TablesState, signals_of, texts_of, trace_of, trace_versions_of, draft_of, method_of, method_versions_of, sequence_of, signed_of};
 ghost use Rattle.cds_sign.specs.declared.row.Row.{Row as RowSeen};
 ghost use Rattle.cds_sign.specs.declared.sequence.Sequence.{Sequence as SequenceSeen};
@@ -102,6 +104,34 @@ pub fn a_basis_rises_where_inputs_differ()
     ensures { (tables : TablesState) (c : Changed) (name : List ℕ) (s : SequenceSeen) → sequence_of tables name ≡ Some s
         → option_map (λ (x : SequenceSeen). x.basis) (sequence_of (applied tables c) name)
         ≡ Some (s.basis + (if inputs_differ tables (applied tables c) name then 1 else 0)) }
+{}
+
+/// A change leaves each sequence that it doesn't change, with its edition and its content: only its basis may rise.
+/// And it makes no other sequence.
+pub fn other_sequences_stay()
+    ensures there { (tables : TablesState) (c : Changed) (name : List ℕ) (s : SequenceSeen) → Some name ≢ sequence_changed c
+        → sequence_of tables name ≡ Some s → sequence_of (applied tables c) name
+        ≡ Some (record s { basis = s.basis + (if inputs_differ tables (applied tables c) name then 1 else 0) }) }
+    ensures absent { (tables : TablesState) (c : Changed) (name : List ℕ) → Some name ≢ sequence_changed c
+        → sequence_of tables name ≡ None → sequence_of (applied tables c) name ≡ None }
+{}
+
+/// A sequence may list itself, also while it is new.
+pub fn a_sequence_may_list_itself()
+    ensures { (tables : TablesState) (name : List ℕ) → standards_judged tables name (name ∷ []) ≡ Ok (name ∷ []) }
+{}
+
+/// The parts of an accepted change are in their ranges.
+pub fn an_accepted_change_is_in_its_ranges()
+    ensures { (tables : TablesState) (c : Changed) → IsTables tables → Accepts tables c → IsChange c }
+{}
+
+/// A signature that was carried out, asked for again, is kept under its number.
+pub fn a_repeated_signature_is_kept()
+    ensures { (tables : TablesState) (sequence : List ℕ) (number basis moment : ℕ) (name meaning text : List ℕ)
+        → Accepts tables (change.Sign sequence number basis moment name meaning text)
+        → sign_judged (applied tables (change.Sign sequence number basis moment name meaning text))
+        sequence basis number name meaning ≡ Ok (sign.Kept number) }
 {}
 
 /// Whatever is changed, each signature stays what it was.
