@@ -31,3 +31,4 @@ pub mod HeldLaws
 pub mod PutLaws
 pub mod RoomLaws
 pub mod RaiseLaws
+pub mod ReachLaws

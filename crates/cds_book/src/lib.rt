@@ -22,6 +22,7 @@ mod over;
 mod plan;
 mod plan_sequence;
 mod raise;
+mod reach;
 mod reserve;
 mod rises;
 mod room;

@@ -87,9 +87,20 @@ impl Tables {
         Ok(Over::Sequence(name, made))
     }
 
-    // Whether the inputs of a sequence that is there become others once this is made other.
-    #[tactic(auto, unfolding(crate::specs::Held::bindings_over))]
+    // Whether the inputs of a sequence that is there become others once this is made other. They are built only where they
+    // may.
     fn differs(&self, over: &Over, name: Name) -> Result<bool, NoMemory>
+        ensures { IfOk result (λ r. r ≡ are_others (inputs_of self.now.state name) (inputs_by (bindings_over self.now.state over.now) name)) }
+    {
+        if self.is_reached(over, name) {
+            return self.compare(over, name);
+        }
+        Ok(false)
+    }
+
+    // Whether the inputs of a sequence that is there and those once this is made other differ.
+    #[tactic(auto, unfolding(crate::specs::Held::bindings_over))]
+    fn compare(&self, over: &Over, name: Name) -> Result<bool, NoMemory>
         ensures { IfOk result (λ r. r ≡ are_others (inputs_of self.now.state name) (inputs_by (bindings_over self.now.state over.now) name)) }
     {
         let before = self.inputs_over(&Over::Nothing, name)?;
