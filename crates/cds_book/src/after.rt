@@ -12,14 +12,15 @@ use cds_sign::{Change, Inputs};
 use cds_trace::Trace;
 
 impl Tables {
-    /// The inputs of a sequence as a change would leave the tables, or as they are where there is no change. None exactly
-    /// where there would be no such sequence. The tables stay as they are.
+    /// The inputs of a sequence as a change would leave the tables, or as they are where there is no change. None
+    /// exactly where there would be no such sequence. The tables stay as they are.
     pub fn inputs_with(
         &self,
         change: Option<&Change>,
         name: Name,
     ) -> Result<Option<Inputs>, NoMemory>
-        ensures { IfOk result (λ inputs. inputs ≡ inputs_of (with_change self.now.state (option_copied change.entry)) name) }
+        ensures { IfOk result
+            (λ inputs. inputs ≡ inputs_of (with_change self.now.state (option_copied change.entry)) name) }
     {
         let Some(change) = change else {
             return self.inputs_now(name);
@@ -43,15 +44,16 @@ impl Tables {
         self.inputs_over(&over, name)
     }
 
-    /// The version of a trace, counted from 1, as a change would leave the tables, or as they are where there is no change.
-    /// None exactly where it wouldn't be there.
+    /// The version of a trace, counted from 1, as a change would leave the tables, or as they are where there is no
+    /// change. None exactly where it wouldn't be there.
     pub fn trace_with<'a>(
         &'a self,
         change: Option<&'a Change>,
         name: Name,
         version: u32,
     ) -> Option<&'a Trace>
-        ensures { option_copied result ≡ trace_of (with_change self.now.state (option_copied change.entry)) name version }
+        ensures { option_copied result
+            ≡ trace_of (with_change self.now.state (option_copied change.entry)) name version }
     {
         let Some(change) = change else {
             return self.trace(name, version);
@@ -84,15 +86,16 @@ impl Tables {
         Some(trace)
     }
 
-    /// The text of a method's version, counted from 1, as a change would leave the tables, or as they are where there is no
-    /// change. None exactly where it wouldn't be there.
+    /// The text of a method's version, counted from 1, as a change would leave the tables, or as they are where there
+    /// is no change. None exactly where it wouldn't be there.
     pub fn method_with<'a>(
         &'a self,
         change: Option<&'a Change>,
         name: Name,
         version: u32,
     ) -> Option<&'a [u8]>
-        ensures { option_copied result ≡ method_of (with_change self.now.state (option_copied change.entry)) name version }
+        ensures { option_copied result
+            ≡ method_of (with_change self.now.state (option_copied change.entry)) name version }
     {
         let Some(change) = change else {
             return self.method(name, version);

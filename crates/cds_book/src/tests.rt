@@ -1,5 +1,5 @@
-//! What commands come to on tables, and the limits of tables at their edges. Each line asks for something, and says behind
-//! `->` what it comes to: `changed`, `unchanged`, or the number of a refusal with what it shows.
+//! What commands come to on tables, and the limits of tables at their edges. Each line asks for something, and says
+//! behind `->` what it comes to: `changed`, `unchanged`, or the number of a refusal with what it shows.
 ghost use Rattle.std.specs.Prelude.{◌≡◌, ◌≤◌, true, All, IfOk, length, map};
 ghost use Rattle.cds_base.specs.EventRange.{EventRanges};
 ghost use Rattle.cds_sign.specs.Printed.{is_printed};
@@ -213,6 +213,14 @@ fn signatures_are_at_most_100(rt: HostRuntime) -> Result<(), Fail> {
         (1, 100, "sign # % 1 who why"),
         behind,
     )
+}
+
+#[test]
+fn sequences_are_at_most_500(rt: HostRuntime) -> Result<(), Fail> {
+    let each = "sequence # 0 m % b1 X1,sample,one,0,";
+    let behind =
+        "sequence more 0 m 1 b1 X1,sample,one,0, -> 10 500\nsequence n7 1 m 1 b1 X2,sample,one,0, -> changed\n";
+    tell_at_limit(&rt, rt.alloc(), &[BEFORE], (499, 1, each), behind)
 }
 
 #[test]
