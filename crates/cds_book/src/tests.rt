@@ -78,7 +78,7 @@ see b1 now -> edition 1 basis 2
 see b2 now -> edition 1 basis 3
 "#;
 
-/// So do events of the standard's row, and a row that is no longer used.
+/// So do events of the standard's row, and those of another row raise the basis of its own sequence alone.
 const OTHER_EVENTS: &str = r#"events b1 0 1 0 6000 -> 7 1
 events b1 1 1 0 6000 -> changed
 see b1 now -> edition 2 basis 2
@@ -86,6 +86,13 @@ see b2 now -> edition 1 basis 2
 events b1 7 1 0 6000 -> unchanged
 events b1 2 3 0 6000 -> changed
 see b1 now -> edition 3 basis 3
+see b2 now -> edition 1 basis 2
+"#;
+
+/// So does a standard that is no longer used.
+const UNUSED: &str =
+    r#"sequence b1 1 m 0 b1 S1,unused,one,0,16 X1,sample,one,0, R1,replicate,one,0, -> changed
+see b1 now -> edition 2 basis 2
 see b2 now -> edition 1 basis 2
 "#;
 
@@ -146,7 +153,7 @@ fn a_draft_is_frozen_edited_and_frozen_again(rt: HostRuntime) -> Result<(), Fail
 
 #[test]
 fn a_basis_rises_with_the_inputs(rt: HostRuntime) -> Result<(), Fail> {
-    for lines in [OTHER_TRACE, OTHER_EVENTS] {
+    for lines in [OTHER_TRACE, OTHER_EVENTS, UNUSED] {
         tell_from_empty(&rt, rt.alloc(), &[BEFORE, BORROWED, lines])?;
     }
     Ok(())
@@ -512,7 +519,8 @@ fn each_row(alloc: Global, text: &str) -> Result<Vec<AskedRow>, Fail>
     Ok(rows)
 }
 
-// A row: its label, its kind, its trace with the version, and its amount, if it states one.
+// A row: its label, its kind, its trace with the version, and its amount, if it states one. `unused` is the kind of a
+// standard that isn't used.
 fn row_of(alloc: Global, text: &str) -> Result<AskedRow, Fail>
     ensures { IfOk result IsAskedRow }
 {
@@ -529,7 +537,7 @@ fn row_of(alloc: Global, text: &str) -> Result<AskedRow, Fail>
         kind: kind_of(kind),
         trace,
         version,
-        used: true,
+        used: kind != "unused",
         u: 1,
         v: 1,
         amounts,
@@ -538,7 +546,7 @@ fn row_of(alloc: Global, text: &str) -> Result<AskedRow, Fail>
 }
 
 fn kind_of(text: &str) -> RowKind {
-    if text == "standard" {
+    if text == "standard" || text == "unused" {
         return RowKind::Standard;
     }
     if text == "replicate" {
