@@ -3,7 +3,7 @@ use Rattle.std.proofs.Common.{◌≡◌, ◌∙◌, ℕ, ◌+◌, ◌-◌, ◌�
 use Rattle.std.specs.Prelude.{IsSome, is_some, if◌then◌else◌}
 use Rattle.std.specs.Option.{option_map_or}
 use Rattle.std.proofs.lemmas.Bool.Decides.{nat_tests}
-use Rattle.std.proofs.lemmas.List.{length-append, length-map, length-set}
+use Rattle.std.proofs.lemmas.List.{length-append, length-set}
 use Rattle.cds_base.specs.Answers.{◌>>=◌}
 use Rattle.cds_base.specs.declared.event.Event.{Event}
 use Rattle.cds_sign.specs.declared.command.Change.{Change}

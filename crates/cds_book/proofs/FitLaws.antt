@@ -1,6 +1,6 @@
 -- What is planned of a sequence fits the tables: the parts of its rows are in their ranges, their labels differ, standards
 -- alone state amounts, and what it binds and lists is there.
-use Rattle.std.proofs.Common.{◌≡◌, ◌∙◌, ℕ, ℤ, ◌+◌, ◌-◌, ◌<◌, ◌≤◌, ◌==◌, Bool, true, false, inl, inr, List, [], ◌∷◌, ◌++◌, length, get_or, map, set, Option, Some, None, option_map, Result, Ok, refl, sym, ap, ap₂, subst, arith, slice_get, if◌then◌else◌}
+use Rattle.std.proofs.Common.{◌≡◌, ◌∙◌, ℕ, ℤ, ◌+◌, ◌-◌, ◌==◌, Bool, true, false, inl, inr, List, [], ◌∷◌, ◌++◌, length, get_or, map, set, Option, Some, None, option_map, Result, Ok, refl, sym, ap, ap₂, subst, arith, slice_get, if◌then◌else◌}
 use Rattle.std.specs.Prelude.{◌⊎◌, ◌||◌, All, IsSome, IsTrue, is_some, nat_lt, not}
 use Rattle.std.specs.Cmp.{IsEquivalence}
 use Rattle.std.specs.List.{IsDistinct, list_any}
@@ -31,7 +31,7 @@ use Rattle.cds_book.specs.Plan.{with_events}
 use Rattle.cds_book.specs.Tables.{NamedSequence, TablesState, numbered, draft_of, sequence_named, sequence_of, signals_of, texts_of}
 use Rattle.cds_book.specs.declared.error.PlanError.{PlanError}
 use Rattle.cds_book.specs.declared.error.PlanError.TheVariants.{NoTrace, NoMethod, NoVersion, NoSequence, TwoLabels, BadAmount}
-use Rattle.cds_book.proofs.AskedLaws.{Judges, judges, ok-same, gave, whole, amounts-asked, amount_asked}
+use Rattle.cds_book.proofs.AskedLaws.{judges, ok-same, gave, whole, amounts-asked, amount_asked}
 use Rattle.cds_book.proofs.ContentLaws.{must-so}
 use Rattle.cds_book.proofs.SequenceLaws.{sequence_name}
 

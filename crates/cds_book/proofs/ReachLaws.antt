@@ -10,7 +10,7 @@ use Rattle.cds_sign.specs.declared.inputs.ListedRow.{ListedRow}
 use Rattle.cds_sign.specs.declared.row.Row.{Row}
 use Rattle.cds_sign.specs.declared.sequence.Sequence.{Sequence}
 use Rattle.cds_book.specs.Held.{bindings_over, BindsSame, ListsSame}
-use Rattle.cds_book.specs.Inputs.{Bindings, bindings_of, resolved, row_resolved, is_standard, row_listed, listed_as, listed_of, inputs_in, inputs_by, inputs_of}
+use Rattle.cds_book.specs.Inputs.{bindings_of, resolved, row_resolved, is_standard, row_listed, listed_as, listed_of, inputs_in, inputs_by, inputs_of}
 use Rattle.cds_book.specs.Tables.{TablesState, sequence_of, signals_of, texts_of}
 use Rattle.cds_book.specs.declared.over.Over.{Over}
 use Rattle.cds_book.specs.declared.over.Over.TheVariants as over

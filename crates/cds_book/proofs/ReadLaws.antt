@@ -1,7 +1,5 @@
 -- What is read after a change: what was put, and what stands under other names.
-use Rattle.std.proofs.Common.{◌≡◌, ◌∙◌, ℕ, ◌+◌, ◌-◌, ◌==◌, false, List, [], ◌∷◌, ◌++◌, length, Some, unwrap_or, sym, ap, subst, arith, slice_get}
-use Rattle.std.proofs.lemmas.Bool.Decides.{nat_tests}
-use Rattle.std.proofs.lemmas.List.{length-append}
+use Rattle.std.proofs.Common.{◌≡◌, ◌∙◌, ℕ, ◌+◌, List, [], ◌∷◌, ◌++◌, length, Some, unwrap_or, sym, ap, subst}
 use Rattle.cds_trace.specs.Signal.{Signal}
 use Rattle.cds_book.specs.Plan.{carried, with_signals, with_method, Accepts}
 use Rattle.cds_book.specs.Tables.{NamedTraces, TablesState, numbered, trace_of, trace_versions_of, signals_of, draft_of, method_of, texts_of}
