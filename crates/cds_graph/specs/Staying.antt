@@ -1,12 +1,13 @@
 -- When the results of inputs stay: where the versions that the inputs name are the same. This project's own.
-use Rattle.std.specs.Prelude.{◌≡◌, ◌≤◌, ℕ, List, Some, All, IsSome, length}
+use Rattle.std.specs.Prelude.{◌≡◌, ℕ, List, Some, All, IsSome}
 use Rattle.cds_sign.specs.declared.inputs.Inputs.{Inputs}
 use Rattle.cds_sign.specs.declared.inputs.Listed.{Listed}
 use Rattle.cds_sign.specs.declared.inputs.ListedRow.{ListedRow}
 use Rattle.cds_sign.specs.declared.row.Row.{Row}
 use Rattle.cds_trace.specs.Signal.{Signal}
-use Rattle.cds_book.specs.Tables.{TablesState, NamedSequence, trace_of, method_of, signals_of, texts_of}
-use Rattle.cds_sign.specs.declared.sequence.Sequence.{Sequence}
+use Rattle.cds_book.specs.Tables.{TablesState, trace_of, method_of}
+-- what sequences bind is there, which is a rule of the tables
+pub use Rattle.cds_book.specs.Kept.{Resolves, IsBound, AreBound}
 
 -- two tables have the same under a version of a trace: the same signal, or neither has one
 abbrev pub AgreeOnTrace : TablesState → TablesState → List ℕ → ℕ → Type 0
@@ -44,16 +45,3 @@ pub record KeepsVersions (before after : TablesState) : Type 0 where
       → trace_of before name version ≡ Some signal → trace_of after name version ≡ Some signal
   pub methods : (name : List ℕ) (version : ℕ) (text : List ℕ)
       → method_of before name version ≡ Some text → method_of after name version ≡ Some text
-
--- a version that is bound is there: there is one at all, and the one that is named is no later than the latest
-abbrev pub Resolves : ℕ → ℕ → Type 0
-Resolves count version = (1 ≤ count) × (version ≤ count)
-
--- what a sequence binds is there: the version of its method, and that of the trace of each row
-pub record IsBound (tables : TablesState) (sequence : Sequence) : Type 0 where
-  pub method : Resolves (length (texts_of tables sequence.method)) sequence.version
-  pub rows : All (λ (row : Row). Resolves (length (signals_of tables row.trace)) row.version) sequence.rows
-
--- what each sequence of the tables binds is there
-abbrev pub AreBound : TablesState → Type 0
-AreBound tables = All (λ (entry : NamedSequence). IsBound tables entry.sequence) tables.sequences
