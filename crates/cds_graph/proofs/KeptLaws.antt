@@ -16,7 +16,8 @@ use Rattle.cds_graph.specs.Keys.{row_key}
 use Rattle.cds_graph.specs.Kept.{KeptRow, kept_under, row_under, HoldsKey, IsKept, AreKept}
 use Rattle.cds_graph.specs.Recorded.{signal_in, no_signal, no_method, fields_stated, fields_in, recorded_in}
 use Rattle.cds_graph.specs.Results.{evaluated, eval}
-use Rattle.cds_graph.specs.Rows.{found_in, row_of}
+use Rattle.cds_graph.specs.Found.{FoundRow, row_found}
+use Rattle.cds_graph.specs.Rows.{found_in}
 use Rattle.cds_graph.specs.Staying.{KeepsVersions}
 use Rattle.cds_graph.proofs.KeyLaws.{same_row_key-Decides}
 use Rattle.cds_graph.proofs.StayLaws.{signal-agree, fields-agree, kept-same}
@@ -102,7 +103,8 @@ AreKept-more tables kept key signal text is_signal is_text right =
 
 -- the rows of results are those that their keys name
 rows-keyed : (tables : TablesState) (inputs : Inputs) (rows : List Row) →
-    map (row_of (fields_in tables inputs.method inputs.version)) (map (recorded_in tables) rows)
+    map (λ (r : FoundRow). r.found)
+    (map (row_found (fields_in tables inputs.method inputs.version)) (map (recorded_in tables) rows))
     ≡ map (λ (row : Row). row_under tables (row_key inputs row)) rows
 rows-keyed tables inputs [] = refl
 rows-keyed tables inputs (row ∷ rows) =

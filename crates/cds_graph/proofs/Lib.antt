@@ -1,5 +1,10 @@
 pub mod StayLaws
 pub mod KeyLaws
+pub mod FoundLaws
+pub mod NodeLaws
+pub mod CheckLaws
+pub mod PointLaws
+pub mod ResultLaws
 pub mod KeptLaws
 pub mod FigureLaws
 pub mod BoundLaws

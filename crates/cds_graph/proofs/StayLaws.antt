@@ -13,6 +13,7 @@ use Rattle.cds_graph.specs.Recorded.{RecordedSequence, RecordedRow, RecordedStan
 use Rattle.cds_graph.specs.Recorded.{no_signal, no_method}
 use Rattle.cds_graph.specs.Recorded.{signal_in, fields_stated, fields_in}
 use Rattle.cds_graph.specs.Recorded.{recorded_in, standard_in, listed_in, recorded_of}
+use Rattle.cds_graph.specs.Found.{found_of}
 use Rattle.cds_graph.specs.Results.{evaluated, eval}
 use Rattle.cds_graph.specs.Staying.{AgreeOnTrace, AgreeOnMethod, AgreeOnListed, AgreeOn}
 use Rattle.cds_graph.specs.Staying.{HoldsListed, HoldsInputs, KeepsVersions}
@@ -73,7 +74,8 @@ recorded-agree one other inputs agree =
 pub eval-agree : (one other : TablesState) (inputs : Inputs) → AgreeOn one other inputs →
     eval one inputs ≡ eval other inputs
 unfolding eval
-eval-agree one other inputs agree = ap evaluated (recorded-agree one other inputs agree)
+eval-agree one other inputs agree =
+    ap (λ (s : RecordedSequence). evaluated (found_of s)) (recorded-agree one other inputs agree)
 
 -- what is there and is kept is the same
 pub kept-same : {A : Type 0} (o p : Option A) → IsSome o → ((x : A) → o ≡ Some x → p ≡ Some x) → p ≡ o

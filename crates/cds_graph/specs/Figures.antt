@@ -1,19 +1,20 @@
 -- The figures of the peaks of a row, each with the first cause why it is missing. After USP General Chapter 621, in
 -- this project's forms.
 use Rattle.std.specs.Prelude.{pos, ◌*ℤ◌, unsigned_abs, if◌then◌else◌}
-use Rattle.std.specs.Prelude.{ℕ, ◌-◌, ◌*◌, Option, option_map, ok_or, Result, Ok}
+use Rattle.std.specs.Prelude.{ℕ, ◌-◌, ◌*◌, ◌<◌, ◌≤◌, Option, option_map, ok_or, Result, Ok}
+use Rattle.std.specs.Option.{ForSome}
 use Rattle.std.specs.Ordering.{is_le}
 use Rattle.cds_base.specs.Answers.{◌>>=◌}
 use Rattle.cds_base.specs.declared.peak.Missing.{Missing}
+use Rattle.cds_base.specs.declared.peak.Peak.{Peak}
+use Rattle.cds_base.specs.declared.time.TheConstants.{LAST_TIME_US}
 use Rattle.cds_base.specs.declared.peak.Missing.TheVariants.{NoPeak, WidthCut, NoDeadTime, NoValley}
-use Rattle.cds_rules.specs.Fields.{Fields}
 use Rattle.cds_rules.specs.declared.check.Check.{Check}
 use Rattle.cds_frac.specs.Fraction.{Fraction, lowest_terms}
 use Rattle.cds_frac.specs.FractionOrder.{ratio_cmp}
 use Rattle.cds_figures.specs.Figures.{resolution_of, plates_of, tailing_of, retention_of}
-use Rattle.cds_integrate.specs.Seen.{PeakSeen}
-use Rattle.cds_graph.specs.Recorded.{RecordedRow}
-use Rattle.cds_graph.specs.Rows.{row_of, peak_in}
+use Rattle.cds_integrate.specs.Seen.{PeakSeen, RowSeen}
+use Rattle.cds_graph.specs.Rows.{peak_in}
 
 -- the width of a peak at half its height, in microseconds
 abbrev pub half_width : PeakSeen → Result ℕ Missing
@@ -37,6 +38,12 @@ abbrev pub tailing_in : ℕ → PeakSeen → Result Fraction Missing
 tailing_in period peak = do
   times ← ok_or peak.twentieth WidthCut
   Ok (tailing_of (peak.apex * period) times.0 times.1)
+
+-- where a peak crosses one twentieth of its height, the first crossing lies before its apex sample, and that within the
+-- longest trace
+abbrev pub CrossesBefore : ℕ → Peak → Type 0
+CrossesBefore period peak =
+    ForSome peak.twentieth (λ times. (times.0 < peak.apex * period) × (peak.apex * period ≤ LAST_TIME_US))
 
 -- twice a height over the noise
 abbrev pub over_noise : Fraction → ℕ → Fraction
@@ -69,16 +76,16 @@ peak_valley_in peak = do
   Ok (over_boundary (smaller heights.0 peak.height) heights.1)
 
 -- the figure of the component's peak in a row
-abbrev pub of_peak : (PeakSeen → Result Fraction Missing) → Fields → Check → RecordedRow → Result Fraction Missing
-of_peak figure fields check recorded = peak_in (row_of fields recorded) check.component >>= figure
+abbrev pub of_peak : (PeakSeen → Result Fraction Missing) → Check → RowSeen → Result Fraction Missing
+of_peak figure check row = peak_in row check.component >>= figure
 
 -- the peak of a check's second component in a row
-abbrev pub other_peak : Fields → Check → RecordedRow → Result PeakSeen Missing
-other_peak fields check recorded = ok_or check.other NoPeak >>= peak_in (row_of fields recorded)
+abbrev pub other_peak : Check → RowSeen → Result PeakSeen Missing
+other_peak check row = ok_or check.other NoPeak >>= peak_in row
 
 -- the resolution of a check's two components in a row
-abbrev pub of_two_peaks : Fields → Check → RecordedRow → Result Fraction Missing
-of_two_peaks fields check recorded = do
-  one ← peak_in (row_of fields recorded) check.component
-  other ← other_peak fields check recorded
+abbrev pub of_two_peaks : Check → RowSeen → Result Fraction Missing
+of_two_peaks check row = do
+  one ← peak_in row check.component
+  other ← other_peak check row
   resolution_between one other

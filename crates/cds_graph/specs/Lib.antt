@@ -1,11 +1,15 @@
 pub mod Recorded
 pub mod Rows
+pub mod Noise
+pub mod Found
+pub mod Ranges
 pub mod Points
 pub mod Amounts
-pub mod Noise
 pub mod Figures
+pub mod Nodes
 pub mod Checks
 pub mod Results
+pub mod Looks
 pub mod Keys
 pub mod Staying
 pub mod Kept

@@ -1,7 +1,7 @@
--- The rows of a sequence: what integration finds in each, and the peak of a component in it. This project's own.
-use Rattle.std.specs.Prelude.{ℕ, ◌==◌, Bool, true, false, List, Option, Some, None, length, map, zip, find, ok_or}
+-- A row: what integration finds in it, the peak of a component in it, and what it is injected for. This project's own.
+use Rattle.std.specs.Prelude.{ℕ, ◌==◌, Bool, true, false, List, Option, Some, None, find, ok_or}
 use Rattle.std.specs.Prelude.{Result, Err}
-use Rattle.std.specs.List.{filter, range_with_len}
+use Rattle.std.specs.List.{enumerate_from}
 use Rattle.cds_base.specs.declared.event.Event.{Event}
 use Rattle.cds_base.specs.declared.peak.Missing.{Missing}
 use Rattle.cds_base.specs.declared.peak.Missing.TheVariants.{NoPeak, TooManyPeaks}
@@ -10,19 +10,10 @@ use Rattle.cds_sign.specs.declared.row.RowKind.{RowKind}
 use Rattle.cds_sign.specs.declared.row.RowKind.TheVariants.{Blank, Standard, Replicate, Sample}
 use Rattle.cds_trace.specs.Signal.{Signal}
 use Rattle.cds_integrate.specs.Seen.{PeakSeen, RowSeen, peaks, too_many, row_seen}
-use Rattle.cds_graph.specs.Recorded.{RecordedRow, RecordedSequence}
 
 -- what is found in a signal under a method and the events of its row: its peaks, or that they are too many
 unfoldable pub found_in : Signal → Fields → List Event → RowSeen
 found_in signal fields events = row_seen signal fields events
-
--- what is found in a row of the sequence
-abbrev pub row_of : Fields → RecordedRow → RowSeen
-row_of fields recorded = found_in recorded.signal fields recorded.row.events
-
--- what is found in each row
-abbrev pub rows_of : RecordedSequence → List RowSeen
-rows_of sequence = map (row_of sequence.fields) sequence.rows
 
 -- a number is the one that is sought
 abbrev pub is_number : ℕ → Option ℕ → Bool
@@ -57,8 +48,4 @@ is_sample Sample = true
 
 -- the items of a list with their numbers, counted from 1
 abbrev pub with_numbers : {A : Type 0} → List A → List (ℕ × A)
-with_numbers items = zip (range_with_len 1 (length items)) items
-
--- the replicate rows with their numbers among all rows
-abbrev pub replicates_of : RecordedSequence → List (ℕ × RecordedRow)
-replicates_of sequence = filter (λ numbered. is_replicate numbered.1.row.kind) (with_numbers sequence.rows)
+with_numbers items = enumerate_from 1 items

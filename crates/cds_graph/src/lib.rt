@@ -9,12 +9,27 @@
 //! method that was read once. [`kept_rows_stay`] says that a row that was kept is right whatever is changed.
 #![tactic(auto)]
 
+mod amounts;
+mod calibration;
+mod check_line;
+mod checks;
+mod deviations;
+mod evaluate;
+mod figures;
+mod found;
 mod kept;
 mod key;
 mod laws;
 mod limits;
 mod method;
+mod places;
+mod row_lines;
+mod sequence;
+mod values;
 
+pub use calibration::Calibration;
+pub use check_line::CheckLine;
+pub use figures::{plates_in, tailing_in};
 pub use kept::KeptRows;
 pub use key::RowKey;
 pub use laws::{
