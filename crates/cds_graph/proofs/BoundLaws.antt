@@ -18,6 +18,7 @@ use Rattle.cds_book.specs.Tables.{TablesState, NamedTraces, NamedMethod, NamedSe
 use Rattle.cds_book.specs.Tables.{method_named, sequence_named, signals_of, texts_of, trace_of, method_of, sequence_of}
 use Rattle.cds_book.specs.Inputs.{bindings_of, resolved, row_resolved, is_standard, row_listed, listed_as}
 use Rattle.cds_book.specs.Inputs.{listed_of, inputs_in, inputs_by, inputs_of}
+use Rattle.cds_graph.specs.Keys.{all_inputs}
 use Rattle.cds_graph.specs.Staying.{HoldsListed, HoldsInputs, Resolves, IsBound, AreBound}
 
 -- a number above 0 isn't 0
@@ -169,3 +170,17 @@ inputs-there t name inputs bound = by_found (sequence_of t name) refl
           rows = rows-there t s.rows all.rows;
           standards = listed-there t bound s.standards;
         })
+
+-- what the inputs of all sequences name is there
+pub all-there : (t : TablesState) → AreBound t → All (HoldsInputs t) (all_inputs t)
+unfolding inputs_in bindings_of
+all-there t bound =
+    All-map (HoldsInputs t) (λ (e : NamedSequence). inputs_in (bindings_of t) e.sequence) t.sequences
+    (All-weaker (λ (e : NamedSequence). IsBound t e.sequence)
+    (λ (e : NamedSequence). HoldsInputs t (inputs_in (bindings_of t) e.sequence))
+    (λ e is. record {
+      method = method-bound t e.sequence.method e.sequence.version is.method;
+      rows = rows-there t e.sequence.rows is.rows;
+      standards = listed-there t bound e.sequence.standards;
+    })
+    t.sequences bound)

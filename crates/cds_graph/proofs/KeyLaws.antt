@@ -10,10 +10,10 @@ use Rattle.std.proofs.lemmas.Slice.Eq.{bytes_eq-Decides}
 use Rattle.cds_base.specs.declared.event.Event.{Event}
 use Rattle.cds_book.specs.Tables.{TablesState}
 use Rattle.cds_book.proofs.SameLaws.{same_events-Decides}
-use Rattle.cds_graph.specs.declared.limits.TheConstants.{ROW_STEPS, NOISE_STEPS}
 use Rattle.cds_graph.specs.declared.key.RowKey.{RowKey}
-use Rattle.cds_graph.specs.Keys.{NoiseKey, same_row_key, same_noise_key, row_keys, noise_keys, new_keys}
-use Rattle.cds_graph.specs.Keys.{samples_of, fresh}
+use Rattle.cds_graph.specs.declared.method.MethodKey.{MethodKey}
+use Rattle.cds_graph.specs.Keys.{NoiseKey, same_row_key, same_noise_key, same_method_key, row_keys, noise_keys}
+use Rattle.cds_graph.specs.Keys.{row_steps, noise_steps, new_keys, fresh}
 
 -- records of equal fields are equal
 row_key_made : (a0 b0 : List ℕ) (a1 b1 : ℕ) (a2 b2 : List ℕ) (a3 b3 : ℕ) (a4 b4 : List Event) →
@@ -26,6 +26,11 @@ noise_key_made : (a0 b0 : List ℕ) (a1 b1 : ℕ) (a2 b2 : ℕ) (a3 b3 : ℕ) �
     let x : NoiseKey = record { trace = a0; version = a1; window = record { from_ms = a2; to_ms = a3 } } in
     let y : NoiseKey = record { trace = b0; version = b1; window = record { from_ms = b2; to_ms = b3 } } in x ≡ y
 noise_key_made a0 b0 a1 b1 a2 b2 a3 b3 e0 e1 e2 e3 = cc
+
+method_key_made : (a0 b0 : List ℕ) (a1 b1 : ℕ) → a0 ≡ b0 → a1 ≡ b1 →
+    let x : MethodKey = record { name = a0; version = a1 } in
+    let y : MethodKey = record { name = b0; version = b1 } in x ≡ y
+method_key_made a0 b0 a1 b1 e0 e1 = cc
 
 -- the test of row keys decides whether they are equal
 pub same_row_key-Decides : (a b : RowKey) → Decides (same_row_key a b) (a ≡ b)
@@ -62,6 +67,14 @@ same_noise_key-Decides a b =
       ),
     )
 
+-- the test of method keys decides whether they are equal
+pub same_method_key-Decides : (a b : MethodKey) → Decides (same_method_key a b) (a ≡ b)
+same_method_key-Decides a b =
+    let each = Decides-and _ _ (bytes_eq-Decides a.name b.name) (Decides-eqb a.version b.version) in (
+      λ t. let e = each.0 t in method_key_made _ _ _ _ e.0 e.1,
+      λ e. each.1 (ap (λ (k : MethodKey). k.name) e, ap (λ (k : MethodKey). k.version) e),
+    )
+
 -- none of these keys is new where each is known
 none-new : {K : Type 0} (same : K → K → Bool) (known keys : List K) →
     All (λ key. list_any (same key) known ≡ true) keys → new_keys same known keys ≡ []
@@ -82,8 +95,7 @@ unfolding fresh
 fresh-none tables =
     let rows = none-new_among same_row_key (λ key. (same_row_key-Decides key key).1 refl) (row_keys tables) in
     let noises = none-new_among same_noise_key (λ key. (same_noise_key-Decides key key).1 refl) (noise_keys tables) in
-    ap₂ ◌+◌ (ap (sum_by (λ (key : RowKey). ROW_STEPS * samples_of tables key.trace key.version)) rows)
-    (ap (sum_by (λ (key : NoiseKey). NOISE_STEPS * samples_of tables key.trace key.version)) noises)
+    ap₂ ◌+◌ (ap (sum_by (row_steps tables)) rows) (ap (sum_by (noise_steps tables)) noises)
 
 -- two answers that decide the same are the same
 pub one-answer : {P : Type 0} (r s : Bool) → Decides r P → Decides s P → r ≡ s

@@ -8,3 +8,14 @@ pub mod ResultLaws
 pub mod KeptLaws
 pub mod FigureLaws
 pub mod BoundLaws
+pub mod OnceLaws
+pub mod AmongLaws
+pub mod NameLaws
+pub mod ReadyLaws
+pub mod RightLaws
+pub mod RangeLaws
+pub mod PoolLaws
+pub mod MadeLaws
+pub mod PlaceLaws
+pub mod GatherLaws
+pub mod EntryLaws

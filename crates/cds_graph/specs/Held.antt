@@ -1,21 +1,15 @@
--- How kept rows and sequences are held. No public clause names this.
+-- How sequences are held. No public clause names this.
 use Rattle.std.specs.Prelude.{All, map}
 use Rattle.cds_rules.specs.Fields.{fields_of}
 use Rattle.cds_integrate.specs.Seen.{seen}
 use Rattle.cds_graph.specs.Found.{FoundRow, FoundStandard, FoundListed, FoundSequence}
-use Rattle.cds_graph.specs.Kept.{KeptRow}
 use Rattle.cds_graph.specs.Ranges.{AreAmounts}
 use Rattle.cds_graph.specs.Results.{Results}
 use Rattle.cds_graph.specs.declared.found.FoundRow.{FoundRow as HeldRow}
 use Rattle.cds_graph.specs.declared.found.FoundStandard.{FoundStandard as HeldStandard}
 use Rattle.cds_graph.specs.declared.found.FoundListed.{FoundListed as HeldListed}
 use Rattle.cds_graph.specs.declared.found.FoundSequence.{FoundSequence as HeldSequence}
-use Rattle.cds_graph.specs.declared.kept.Node.{Node}
 use Rattle.cds_graph.specs.declared.sequence.SequenceNode.{SequenceNode}
-
--- what a node is seen as
-abbrev pub node_shown : Node → KeptRow
-node_shown node = record { key = node.key; found = seen node.row.value }
 
 -- what a row of a sequence is seen as
 abbrev pub row_shown : HeldRow → FoundRow

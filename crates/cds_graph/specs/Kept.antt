@@ -1,37 +1,65 @@
--- The rows that are kept, each under its key, so that none is integrated twice. This project's own.
-use Rattle.std.specs.Prelude.{◌≡◌, List, Option, All, IsSome, find, option_map}
+-- What is kept of rows, noises and methods, each under its key, so that none is found twice; and what is kept of a
+-- sequence. This project's own.
+use Rattle.std.specs.Prelude.{ℕ, List, Option}
+use Rattle.cds_figures.specs.Noise.{noise_of}
 use Rattle.cds_integrate.specs.Seen.{RowSeen}
-use Rattle.cds_book.specs.Tables.{TablesState, trace_of, method_of}
+use Rattle.cds_rules.specs.Fields.{Fields}
+use Rattle.cds_sign.specs.declared.inputs.Inputs.{Inputs}
+use Rattle.cds_book.specs.Inputs.{bindings_of, inputs_in}
+use Rattle.cds_book.specs.Tables.{TablesState, NamedSequence}
 use Rattle.cds_graph.specs.declared.key.RowKey.{RowKey}
-use Rattle.cds_graph.specs.Keys.{same_row_key}
+use Rattle.cds_graph.specs.declared.method.MethodKey.{MethodKey}
+use Rattle.cds_graph.specs.Keys.{NoiseKey}
 use Rattle.cds_graph.specs.Recorded.{signal_in, fields_in}
+use Rattle.cds_graph.specs.Results.{Results, eval}
 use Rattle.cds_graph.specs.Rows.{found_in}
 
--- a kept row: its key, and what was found
+-- a kept row: its key, the period of its trace in microseconds, and what is found in it
 pub record KeptRow : Type 0 where
   pub key : RowKey
+  pub period : ℕ
   pub found : RowSeen
 
--- the kept row of a key, if there is one
-abbrev pub kept_under : List KeptRow → RowKey → Option RowSeen
-kept_under kept key =
-    option_map (λ (row : KeptRow). row.found) (find (λ (row : KeptRow). same_row_key row.key key) kept)
+-- a kept noise: its key, and the noise, if there is one
+pub record KeptNoise : Type 0 where
+  pub key : NoiseKey
+  pub noise : Option ℕ
 
--- what a key names in the tables: the row of its trace's version, under its method's version and its manual events
-abbrev pub row_under : TablesState → RowKey → RowSeen
-row_under tables key =
-    found_in (signal_in tables key.trace key.version) (fields_in tables key.method key.method_version) key.events
+-- a kept method: its key, and what its text states
+pub record KeptMethod : Type 0 where
+  pub key : MethodKey
+  pub fields : Fields
 
--- the tables have the versions that a key names
-pub record HoldsKey (tables : TablesState) (key : RowKey) : Type 0 where
-  pub trace : IsSome (trace_of tables key.trace key.version)
-  pub method : IsSome (method_of tables key.method key.method_version)
+-- a kept sequence: its name, its inputs, and its results
+pub record KeptSequence : Type 0 where
+  pub name : List ℕ
+  pub inputs : Inputs
+  pub results : Results
 
--- a kept row is right: the tables have what its key names, and what was found is that
-pub record IsKept (tables : TablesState) (row : KeptRow) : Type 0 where
-  pub holds : HoldsKey tables row.key
-  pub found : row.found ≡ row_under tables row.key
+-- the row that a key names in the tables: that of its trace's version, under its method's version and its manual events
+unfoldable pub row_under : TablesState → RowKey → KeptRow
+row_under tables key = record {
+  key = key;
+  period = (signal_in tables key.trace key.version).period;
+  found =
+      found_in (signal_in tables key.trace key.version) (fields_in tables key.method key.method_version) key.events;
+}
 
--- each kept row is right
-abbrev pub AreKept : TablesState → List KeptRow → Type 0
-AreKept tables kept = All (IsKept tables) kept
+-- the noise that a key names in the tables: that of its trace's version in its window
+unfoldable pub noise_under : TablesState → NoiseKey → KeptNoise
+noise_under tables key = record {
+  key = key;
+  noise = noise_of (signal_in tables key.trace key.version) key.window.from_ms key.window.to_ms;
+}
+
+-- the method that a key names in the tables
+unfoldable pub method_under : TablesState → MethodKey → KeptMethod
+method_under tables key = record { key = key; fields = fields_in tables key.name key.version }
+
+-- a sequence of these inputs with its results in the tables
+abbrev pub sequence_with : TablesState → List ℕ → Inputs → KeptSequence
+sequence_with tables name inputs = record { name = name; inputs = inputs; results = eval tables inputs }
+
+-- a sequence of the tables with its results
+unfoldable pub sequence_under : TablesState → NamedSequence → KeptSequence
+sequence_under tables entry = sequence_with tables entry.name (inputs_in (bindings_of tables) entry.sequence)

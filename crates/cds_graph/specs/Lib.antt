@@ -13,4 +13,7 @@ pub mod Looks
 pub mod Keys
 pub mod Staying
 pub mod Kept
+pub mod Graph
 pub mod Held
+pub mod Building
+pub mod HeldGraph

@@ -1,9 +1,10 @@
 //! What a kept row is found by.
 ghost use Rattle.std.specs.Prelude.{◌≡◌, Decides, IfOk};
+ghost use Rattle.cds_graph.specs.Building.{listed_key};
 ghost use Rattle.cds_graph.specs.Keys.{row_key};
 
 use cds_base::{EventList, Name, NoMemory};
-use cds_sign::{Inputs, Row};
+use cds_sign::{Inputs, Listed, ListedRow, Row};
 
 /// The key of a row: all that its integration rests on. Rows with one key are one row, whatever sequence they are of.
 #[derive(Debug, Drop)]
@@ -31,6 +32,34 @@ impl RowKey {
             version: row.version,
             method: inputs.method,
             method_version: inputs.version,
+            events,
+        })
+    }
+
+    /// The key of a standard row of a listed sequence. The only refusal is want of memory.
+    pub(crate) fn of_listed(listed: &Listed, row: &ListedRow) -> Result<RowKey, NoMemory>
+        ensures { IfOk result (λ key. key ≡ listed_key listed.now row.now) }
+    {
+        let events = row.events.copy()?;
+        Ok(RowKey {
+            trace: row.trace,
+            version: row.version,
+            method: listed.method,
+            method_version: listed.version,
+            events,
+        })
+    }
+
+    /// An equal key with memory of its own.
+    pub fn copy(&self) -> Result<RowKey, NoMemory>
+        ensures { IfOk result (λ copy. copy ≡ self.now) }
+    {
+        let events = self.events.copy()?;
+        Ok(RowKey {
+            trace: self.trace,
+            version: self.version,
+            method: self.method,
+            method_version: self.method_version,
             events,
         })
     }

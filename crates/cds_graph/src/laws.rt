@@ -1,23 +1,20 @@
 //! Laws of the results of sequences. Each is proved by its contract, and its body does nothing, or cites the laws that
 //! it rests on.
-ghost use Rattle.std.specs.Prelude.{◌≡◌, ℕ, ◌<◌, ◌++◌, [], ◌∷◌, Decides, List, Some, map, unsigned_abs};
+ghost use Rattle.std.specs.Prelude.{◌≡◌, ℕ, ◌<◌, Decides, List, Some, map, unsigned_abs};
 ghost use Rattle.cds_base.specs.declared.peak.Ratio.{Ratio};
 ghost use Rattle.cds_figures.specs.Figures.{signal_noise_of, peak_valley_of};
-ghost use Rattle.cds_integrate.specs.Seen.{RowSeen, ratio_seen};
+ghost use Rattle.cds_integrate.specs.Seen.{ratio_seen};
 ghost use Rattle.cds_graph.specs.Figures.{over_noise, over_boundary};
 ghost use Rattle.cds_graph.specs.declared.key.RowKey.{RowKey};
 ghost use Rattle.cds_graph.specs.declared.limits.TheConstants.{NOISE_STEPS, ROW_STEPS};
 ghost use Rattle.cds_sign.specs.declared.command.Change.{Change as Changed};
 ghost use Rattle.cds_sign.specs.declared.inputs.Inputs.{Inputs};
 ghost use Rattle.cds_sign.specs.declared.row.Row.{Row};
-ghost use Rattle.cds_trace.specs.Signal.{Signal};
 ghost use Rattle.cds_book.specs.Inputs.{inputs_of};
 ghost use Rattle.cds_book.specs.Plan.{applied};
-ghost use Rattle.cds_book.specs.Tables.{TablesState, trace_of, method_of};
+ghost use Rattle.cds_book.specs.Tables.{TablesState};
 ghost use Rattle.cds_graph.specs.Keys.{NoiseKey, same_row_key, same_noise_key, row_key, fresh};
-ghost use Rattle.cds_graph.specs.Kept.{KeptRow, kept_under, row_under, AreKept};
-ghost use Rattle.cds_graph.specs.Recorded.{fields_stated};
-ghost use Rattle.cds_graph.specs.Rows.{found_in};
+ghost use Rattle.cds_graph.specs.Kept.{row_under};
 ghost use Rattle.cds_graph.specs.Results.{eval};
 ghost use Rattle.cds_graph.specs.Staying.{AgreeOn, AreBound, HoldsInputs};
 
@@ -75,33 +72,5 @@ pub fn heights_give_their_figures()
 /// What is found in each row of a sequence is what the key of the row names, so rows with one key are one row.
 pub fn rows_are_those_of_their_keys()
     ensures { (tables : TablesState) (inputs : Inputs)
-        → (eval tables inputs).rows ≡ map (λ (row : Row). row_under tables (row_key inputs row)) inputs.rows }
-{}
-
-/// What is found under a key among kept rows that are right is what the key names in the tables.
-pub fn what_is_kept_is_the_row()
-    ensures { (tables : TablesState) (kept : List KeptRow) (key : RowKey) (found : RowSeen)
-        → AreKept tables kept → kept_under kept key ≡ Some found → found ≡ row_under tables key }
-{}
-
-/// Whatever is changed, kept rows that are right in the tables before are right in the tables after. So none of them is
-/// to be integrated anew.
-pub fn kept_rows_stay()
-    ensures { (tables : TablesState) (c : Changed) (kept : List KeptRow)
-        → AreKept tables kept → AreKept (applied tables c) kept }
-{
-    trace_versions_stay();
-    method_versions_stay();
-}
-
-/// A row that is integrated of the trace that its key names, under what the text of the method of its key states, is
-/// right.
-pub fn an_integrated_row_is_right()
-    ensures { (tables : TablesState) (kept : List KeptRow) (key : RowKey) (signal : Signal) (text : List ℕ)
-        → trace_of tables key.trace key.version ≡ Some signal
-        → method_of tables key.method key.method_version ≡ Some text → AreKept tables kept
-        → AreKept tables (kept ++ record {
-          key = key;
-          found = found_in signal (fields_stated text) key.events;
-        } ∷ []) }
+        → (eval tables inputs).rows ≡ map (λ (row : Row). (row_under tables (row_key inputs row)).found) inputs.rows }
 {}

@@ -5,41 +5,44 @@
 //! the verdict. `specs/Keys.antt` says what integration is done for, and what a change may cost. Of the laws,
 //! [`results_stay`] says that what was signed can be computed again at any later time.
 //!
-//! Of the calls there are those that keep rows: [`KeptRows`] has each row under its [`RowKey`], and [`MethodNode`] a
-//! method that was read once. [`kept_rows_stay`] says that a row that was kept is right whatever is changed.
+//! Begin with the calls at [`Graph`]: it keeps the results of all sequences of the tables, [`Graph::prepare`] makes the
+//! graph that stands for the tables after a change, and [`Graph::commit`] puts it in place of the one before.
 #![tactic(auto)]
 
 mod amounts;
+mod build;
 mod calibration;
 mod check_line;
 mod checks;
 mod deviations;
+mod entry;
 mod evaluate;
 mod figures;
 mod found;
-mod kept;
+mod gather;
+mod graph;
 mod key;
 mod laws;
 mod limits;
 mod method;
+mod methods;
+mod noises;
 mod places;
 mod row_lines;
+mod rows;
 mod sequence;
+mod source;
 mod values;
 
 pub use calibration::Calibration;
 pub use check_line::CheckLine;
 pub use figures::{plates_in, tailing_in};
-pub use kept::KeptRows;
+pub use graph::{Graph, Prepared};
 pub use key::RowKey;
 pub use laws::{
-    an_integrated_row_is_right, heights_give_their_figures, inputs_are_there, kept_rows_stay,
-    keys_are_the_same_where_equal, nothing_is_new_where_nothing_changed,
-    results_rest_on_what_inputs_name, results_stay, rows_are_those_of_their_keys, the_limits,
-    what_is_kept_is_the_row,
+    heights_give_their_figures, inputs_are_there, keys_are_the_same_where_equal,
+    nothing_is_new_where_nothing_changed, results_rest_on_what_inputs_name, results_stay,
+    rows_are_those_of_their_keys, the_limits,
 };
 pub use limits::{NOISE_STEPS, ROW_STEPS};
-pub use method::MethodNode;
-
-#[cfg(test)]
-mod tests;
+pub use method::{MethodKey, MethodNode};

@@ -8,6 +8,15 @@ use cds_base::{Name, NoMemory};
 use cds_rules::Method;
 use std::alloc::Global;
 
+/// What a method is found by.
+#[derive(Clone, Copy, Debug)]
+pub struct MethodKey {
+    /// The name of the method.
+    pub name: Name,
+    /// The version, counted from 1.
+    pub version: u32,
+}
+
 /// A version of a method, read once, so that its text isn't read for each row.
 #[derive(Debug, Drop)]
 pub struct MethodNode {
