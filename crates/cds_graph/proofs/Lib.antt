@@ -2,6 +2,7 @@ pub mod StayLaws
 pub mod KeyLaws
 pub mod FoundLaws
 pub mod NodeLaws
+pub mod LookLaws
 pub mod CheckLaws
 pub mod PointLaws
 pub mod ResultLaws

@@ -17,3 +17,4 @@ pub mod Graph
 pub mod Held
 pub mod Building
 pub mod HeldGraph
+pub mod GraphLooks

@@ -24,6 +24,7 @@ mod graph;
 mod key;
 mod laws;
 mod limits;
+mod look;
 mod method;
 mod methods;
 mod noises;
