@@ -1,5 +1,5 @@
 -- What is found in a row, as its node keeps it.
-use Rattle.std.proofs.Common.{◌≡◌, ◌∙◌, ℕ, ◌≤◌, ◌-◌, Option, Some, None, option_map}
+use Rattle.std.proofs.Common.{◌≡◌, ◌∙◌, ℕ, ◌≤◌, Option, Some, None, option_map}
 use Rattle.std.proofs.Common.{find, refl, sym, ap, arith}
 use Rattle.std.specs.Prelude.{ok_or}
 use Rattle.cds_base.specs.declared.peak.Missing.TheVariants.{NoPeak}

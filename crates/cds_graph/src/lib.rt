@@ -6,7 +6,8 @@
 //! [`results_stay`] says that what was signed can be computed again at any later time.
 //!
 //! Begin with the calls at [`Graph`]: it keeps the results of all sequences of the tables, [`Graph::prepare`] makes the
-//! graph that stands for the tables after a change, and [`Graph::commit`] puts it in place of the one before.
+//! graph that stands for the tables after a change, and [`Graph::commit`] puts it in place of the one before. The
+//! look-ups from [`Graph::row`] to [`Graph::verdict`] answer what it keeps of the sequence of a name.
 #![tactic(auto)]
 
 mod amounts;
