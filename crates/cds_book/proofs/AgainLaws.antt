@@ -23,7 +23,7 @@ use Rattle.cds_sign.specs.declared.inputs.Inputs.{Inputs}
 use Rattle.cds_book.specs.Held.{bindings_over}
 use Rattle.cds_book.specs.Inputs.{bindings_of, inputs_in}
 use Rattle.cds_book.specs.Judged.{must, can_bind, each_judged, edition_of, method_judged, standard_judged, standards_judged, trace_judged, row_judged, rows_judged, sequence_judged, sign_judged, says_same, new_judged}
-use Rattle.cds_book.specs.Plan.{planned, applied, carried, raised, inputs_differ, has_content, is_kept, other_planned, sequence_planned, events_planned, rebind_planned, signature_planned, sign_planned, row_at, asked_of, command_of, same_signal, sequence_put, with_changed, with_events, with_sequence, with_signature, sequence_made, signature, Accepts}
+use Rattle.cds_book.specs.Plan.{planned, applied, carried, raised, inputs_differ, has_content, is_kept, other_planned, sequence_planned, events_planned, rebind_planned, signature_planned, sign_planned, row_at, asked_of, command_of, same_signal, sequence_put, with_changed, with_events, with_sequence, with_signature, sequence_made, signature}
 use Rattle.cds_book.specs.Same.{same_events}
 use Rattle.cds_book.specs.Tables.{NamedSequence, TablesState, numbered, signals_of, draft_of, texts_of, sequence_named, sequence_of, signatures_of, signed_of}
 use Rattle.cds_book.specs.declared.command.Plan.{Plan}
@@ -43,6 +43,10 @@ use Rattle.cds_book.proofs.SameLaws.{same_events-Decides, same_rows-Decides}
 use Rattle.cds_book.proofs.SequenceLaws.{sequence-signed, sequence_name, sequence_named-with, sequence_of-with, signatures_of-with}
 use Rattle.cds_book.proofs.TraceLaws.{carried-trace, planned-latest_trace, signals_of-with}
 use Rattle.cds_book.proofs.VersionLaws.{is_latest-push, latest-push, same_signal-Decides}
+
+-- a change is planned for the command that it carries out
+abbrev pub Planned : TablesState → Change → Type 0
+Planned t c = planned t (command_of c) ≡ Ok (plan.Change c)
 
 -- bases that rise leave the traces and the methods
 traces-applied : (t : TablesState) (c : Change) (name : List ℕ) → signals_of (applied t c) name ≡ signals_of (carried t c) name
@@ -229,12 +233,12 @@ numbered-last xs x =
     ap (λ b. cond b None (slice_get (xs ++ x ∷ []) (length xs + 1 - 1))) test ∙ ap (λ n. slice_get (xs ++ x ∷ []) (n - 1)) same ∙ latest-push xs x
 
 -- changes of sequences, asked for again
-again-put : (t : TablesState) (name : List ℕ) (edition : ℕ) (method : List ℕ) (version : ℕ) (standards : List (List ℕ)) (rows : List Row) → Accepts t (change.Sequence name edition method version standards rows)
+again-put : (t : TablesState) (name : List ℕ) (edition : ℕ) (method : List ℕ) (version : ℕ) (standards : List (List ℕ)) (rows : List Row) → Planned t (change.Sequence name edition method version standards rows)
     → planned (applied t (change.Sequence name edition method version standards rows)) (command.Sequence name edition method version standards (map asked_of rows)) ≡ Ok plan.Unchanged
 unfolding planned sequence_made
 again-put t name edition method version standards rows accepts =
     let c = change.Sequence name edition method version standards rows in
-    let plans = PlansSequence-planned t name edition method version standards (map asked_of rows) c accepts.accepted in
+    let plans = PlansSequence-planned t name edition method version standards (map asked_of rows) c accepts in
     let one : plans.listed ≡ standards = let same = plans.is in cc in
     let two : plans.rows ≡ rows = let same = plans.is in cc in
     let made = sequence_put t name method version standards rows in
@@ -245,12 +249,12 @@ again-put t name edition method version standards rows accepts =
     (λ n there. ap (λ (s : TablesState). is_some (sequence_of s n)) (sym shape) ∙ there-made t c name made (signatures_of t name) refl n there)
     edition method version standards rows plans.methods (plans.standards_are ∙ ap Ok one) (plans.rows_are ∙ ap Ok two) (content-self q))
 
-again-events : (t : TablesState) (name : List ℕ) (edition row : ℕ) (events : List Event) → Accepts t (change.Events name edition row events) → planned (applied t (change.Events name edition row events)) (command.Events name edition row events) ≡ Ok plan.Unchanged
+again-events : (t : TablesState) (name : List ℕ) (edition row : ℕ) (events : List Event) → Planned t (change.Events name edition row events) → planned (applied t (change.Events name edition row events)) (command.Events name edition row events) ≡ Ok plan.Unchanged
 unfolding planned events_planned sequence_judged row_at sequence_made
 again-events t name edition row events accepts =
     let c = change.Events name edition row events in
     let last : Row → Result Plan PlanError = λ r. cond (same_events r.events events) (Ok plan.Unchanged) (other_planned t name edition c) in
-    let one = follows (sequence_judged t name) (λ s. row_at s row >>= last) c accepts.accepted in
+    let one = follows (sequence_judged t name) (λ s. row_at s row >>= last) c accepts in
     let two = follows (row_at one.value row) last c one.rest in
     let there = there-found (sequence_of t name) (NoSequence name) one.value one.judged in
     let found = there-found (numbered one.value.rows row) (NoRow row) two.value two.judged in
@@ -265,13 +269,13 @@ again-events t name edition row events accepts =
     (λ n there. ap (λ (s : TablesState). is_some (sequence_of s n)) (sym shape) ∙ there-made t c name made signed is n there)
     edition row events (record two.value { events = events }) (numbered-put one.value.rows row events two.value found) refl)
 
-again-rebind : (t : TablesState) (name : List ℕ) (edition version : ℕ) → Accepts t (change.Rebind name edition version) → planned (applied t (change.Rebind name edition version)) (command.Rebind name edition version) ≡ Ok plan.Unchanged
+again-rebind : (t : TablesState) (name : List ℕ) (edition version : ℕ) → Planned t (change.Rebind name edition version) → planned (applied t (change.Rebind name edition version)) (command.Rebind name edition version) ≡ Ok plan.Unchanged
 unfolding planned rebind_planned sequence_judged sequence_made
 again-rebind t name edition version accepts =
     let c = change.Rebind name edition version in
     let last : Sequence → Unit {0} → Result Plan PlanError = λ s _. cond (s.version == version) (Ok plan.Unchanged) (other_planned t name edition c) in
     let fits : Sequence → Result (Unit {0}) PlanError = λ s. must (NoVersion s.method) (can_bind (length (texts_of t s.method)) version) in
-    let one = follows (sequence_judged t name) (λ s. fits s >>= last s) c accepts.accepted in
+    let one = follows (sequence_judged t name) (λ s. fits s >>= last s) c accepts in
     let two = follows (fits one.value) (last one.value) c one.rest in
     let there = there-found (sequence_of t name) (NoSequence name) one.value one.judged in
     let f : Sequence → Sequence = λ s. record s { edition = edition_of t name + 1; version = version } in
@@ -291,12 +295,12 @@ next-planned t c asked sequence basis number name meaning (sign.Kept n) judged i
 next-planned t c asked sequence basis number name meaning sign.New judged is = next-signed t sequence basis number name meaning judged
 
 -- a signature is kept under its number
-pub kept-again : (t : TablesState) (sequence : List ℕ) (number basis moment : ℕ) (name meaning text : List ℕ) → Accepts t (change.Sign sequence number basis moment name meaning text)
+pub kept-again : (t : TablesState) (sequence : List ℕ) (number basis moment : ℕ) (name meaning text : List ℕ) → Planned t (change.Sign sequence number basis moment name meaning text)
     → sign_judged (applied t (change.Sign sequence number basis moment name meaning text)) sequence basis number name meaning ≡ Ok (sign.Kept number)
 unfolding planned signature_planned sign_judged sequence_judged bindings_over
 kept-again t sequence number basis moment name meaning text accepts =
     let c = change.Sign sequence number basis moment name meaning text in
-    let one = follows (sign_judged t sequence basis number name meaning) (sign_planned t c) c accepts.accepted in
+    let one = follows (sign_judged t sequence basis number name meaning) (sign_planned t c) c accepts in
     let next = next-planned t c c sequence basis number name meaning one.value one.judged one.rest in
     let there = there-some (sequence_of t sequence) (sequence-signed t sequence basis number name meaning one.value one.judged) in
     let over : Inputs → Signed = signature number basis moment name meaning text in
@@ -312,7 +316,7 @@ kept-again t sequence number basis moment name meaning text accepts =
     ∙ ap (λ b. cond b (Ok (sign.Kept number)) (new_judged w sequence there.0.basis basis number)) (ap (λ (o : Option Signed). option_map_or (says_same basis name meaning) o false) found ∙ same) in
     subst (λ (s : TablesState). sign_judged s sequence basis number name meaning ≡ Ok (sign.Kept number)) (sym (applied-same t c (bindings-sign t sequence over (sequence_of t sequence) refl) ∙ is)) kept
 
-again-sign : (t : TablesState) (sequence : List ℕ) (number basis moment : ℕ) (name meaning text : List ℕ) → Accepts t (change.Sign sequence number basis moment name meaning text)
+again-sign : (t : TablesState) (sequence : List ℕ) (number basis moment : ℕ) (name meaning text : List ℕ) → Planned t (change.Sign sequence number basis moment name meaning text)
     → planned (applied t (change.Sign sequence number basis moment name meaning text)) (command.Sign sequence number basis moment name meaning text) ≡ Ok plan.Unchanged
 unfolding planned signature_planned
 again-sign t sequence number basis moment name meaning text accepts =
@@ -320,7 +324,7 @@ again-sign t sequence number basis moment name meaning text accepts =
     after-ok (sign_judged (applied t c) sequence basis number name meaning) (sign.Kept number) (sign_planned (applied t c) c) (kept-again t sequence number basis moment name meaning text accepts)
 
 -- a change that was carried out, asked for again, changes nothing
-pub planned-again : (t : TablesState) (c : Change) → Accepts t c → planned (applied t c) (command_of c) ≡ Ok plan.Unchanged
+pub planned-again : (t : TablesState) (c : Change) → Planned t c → planned (applied t c) (command_of c) ≡ Ok plan.Unchanged
 planned-again t (change.Trace name signal) accepts =
     let c = change.Trace name signal in
     let versions = signals_of t name ++ signal ∷ [] in

@@ -32,7 +32,7 @@ IsTables-applied_draft t name text kept accepts = subst IsTables (sym (applied-d
 pub IsTables-applied_freeze : (t : TablesState) (name : List ℕ) (version : ℕ) → IsTables t → Accepts t (change.Freeze name version) → IsTables (applied t (change.Freeze name version))
 IsTables-applied_freeze t name version kept accepts =
     let c = change.Freeze name version in
-    let new = IsNewText-accepted t name version accepts in
+    let new = IsNewText-accepted t name version accepts.accepted in
     let texts = texts_of t name ++ new.draft ∷ [] in
     let is = carried-freeze t name version new.draft new.is in
     let more = method_versions-with t kept name new.draft texts 1 (length-append (texts_of t name) (new.draft ∷ [])) in

@@ -20,6 +20,7 @@ pub mod AcceptedLaws
 pub mod KeptLaws
 pub mod SignedLaws
 pub mod AgainLaws
+pub mod EditionLaws
 pub mod StoodLaws
 pub mod BasisLaws
 pub mod StayLaws

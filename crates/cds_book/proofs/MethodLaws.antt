@@ -221,13 +221,14 @@ pub record IsNewText (t : TablesState) (name : List ℕ) (version : ℕ) : Type 
   pub next : version ≡ length (texts_of t name) + 1
   pub within : AreWithin (counts_of (change.Freeze name version) (carried t (change.Freeze name version)))
 
-pub IsNewText-accepted : (t : TablesState) (name : List ℕ) (version : ℕ) → Accepts t (change.Freeze name version) → IsNewText t name version
+pub IsNewText-accepted : (t : TablesState) (name : List ℕ) (version : ℕ)
+    → planned t (command.Freeze name version) ≡ Ok (plan.Change (change.Freeze name version)) → IsNewText t name version
 IsNewText-accepted t name version accepts = by_draft (draft_of t name) refl
   where
     judged : (draft : List ℕ) → draft_of t name ≡ Some draft → is_latest bytes_eq (texts_of t name) draft ≡ false → (version ≡ length (texts_of t name) + 1) ⊎ (version ≡ length (texts_of t name) + 1 → ⊥) → IsNewText t name version
     judged draft is other (inr differs) =
         let refused = planned-other_number t name version draft (sym is) (texts_of t name) refl _ (sym other) refl differs in
-        let contrary : Err (Number (length (texts_of t name) + 1)) ≡ Ok (plan.Change (change.Freeze name version)) = sym refused ∙ accepts.accepted in
+        let contrary : Err (Number (length (texts_of t name) + 1)) ≡ Ok (plan.Change (change.Freeze name version)) = sym refused ∙ accepts in
         cc
     judged draft is other (inl next) =
         let counts = counts_of (change.Freeze name version) (carried t (change.Freeze name version)) in
@@ -237,18 +238,18 @@ IsNewText-accepted t name version accepts = by_draft (draft_of t name) refl
           is = is;
           other = other;
           next = next;
-          within = AreWithin-none counts (unless_full-ok _ (change.Freeze name version) (sym answer ∙ accepts.accepted));
+          within = AreWithin-none counts (unless_full-ok _ (change.Freeze name version) (sym answer ∙ accepts));
         }
 
     by_draft : (found : Option (List ℕ)) → draft_of t name ≡ found → IsNewText t name version
     by_draft None is =
         let refused = planned-no_draft t name version (sym is) in
-        let contrary : Err (NoMethod name) ≡ Ok (plan.Change (change.Freeze name version)) = sym refused ∙ accepts.accepted in
+        let contrary : Err (NoMethod name) ≡ Ok (plan.Change (change.Freeze name version)) = sym refused ∙ accepts in
         cc
     by_draft (Some draft) is = elim (cases_Bool (is_latest bytes_eq (texts_of t name) draft)) [
       | inl same ↦
           let unchanged = planned-latest_text t name version draft (sym is) (texts_of t name) refl (sym same) in
-          let contrary : Ok plan.Unchanged ≡ Ok (plan.Change (change.Freeze name version)) = sym unchanged ∙ accepts.accepted in
+          let contrary : Ok plan.Unchanged ≡ Ok (plan.Change (change.Freeze name version)) = sym unchanged ∙ accepts in
           cc
       | inr other ↦ judged draft is other (cases_eq version (length (texts_of t name) + 1))
     ]
@@ -256,7 +257,7 @@ IsNewText-accepted t name version accepts = by_draft (draft_of t name) refl
 -- all rules are kept when an accepted freeze is carried out
 pub IsTables-freeze : (t : TablesState) (name : List ℕ) (version : ℕ) → IsTables t → Accepts t (change.Freeze name version) → ((draft : List ℕ) → Grows t (with_method t name draft (texts_of t name ++ draft ∷ []))) → IsTables (carried t (change.Freeze name version))
 IsTables-freeze t name version kept accepts frozen =
-    let new = IsNewText-accepted t name version accepts in
+    let new = IsNewText-accepted t name version accepts.accepted in
     let texts = texts_of t name ++ new.draft ∷ [] in
     let entry : NamedMethod = record { name = name; draft = new.draft; versions = texts } in
     let after = with_method t name new.draft texts in

@@ -170,7 +170,7 @@ AnswersAccepted-planned t asked (Err e) fit answers = tt
 -- an accepted freeze names the next version
 next_version : (t : TablesState) (name : List ℕ) (version : ℕ) → Accepts t (change.Freeze name version) → version ≡ length (texts_of t name) + 1
 next_version t name version accepts =
-    let new = IsNewText-accepted t name version accepts in
+    let new = IsNewText-accepted t name version accepts.accepted in
     elim (cases_eq version (length (texts_of t name) + 1)) [
       | inl next ↦ next
       | inr differs ↦
@@ -182,7 +182,7 @@ next_version t name version accepts =
 -- and none past the most that a method may have
 pub freeze-numbered : (t : TablesState) (name : List ℕ) (version : ℕ) → Accepts t (change.Freeze name version) → (1 ≤ version) × (version ≤ MOST_VERSIONS)
 freeze-numbered t name version accepts =
-    let new = IsNewText-accepted t name version accepts in
+    let new = IsNewText-accepted t name version accepts.accepted in
     let next = next_version t name version accepts in
     let texts = texts_of t name ++ new.draft ∷ [] in
     let within = subst (λ s. AreWithin (counts_of (change.Freeze name version) s)) (carried-freeze t name version new.draft new.is) new.within in

@@ -27,7 +27,7 @@ trace_of-carried t name signal =
 -- a draft that was frozen is read back under the number that was named
 pub method_of-carried : (t : TablesState) (name : List ℕ) (version : ℕ) → Accepts t (change.Freeze name version) → method_of (carried t (change.Freeze name version)) name version ≡ draft_of t name
 method_of-carried t name version accepts =
-    let new = IsNewText-accepted t name version accepts in
+    let new = IsNewText-accepted t name version accepts.accepted in
     let texts = texts_of t name ++ new.draft ∷ [] in
     let found = method_of-found (with_method t name new.draft texts) name _ (method_named-with t name new.draft texts) version in
     let here : numbered texts version ≡ Some new.draft = subst (λ n. numbered texts n ≡ Some new.draft) (sym new.next) (numbered-push (texts_of t name) new.draft) in

@@ -157,7 +157,7 @@ no_sequence_gap a v name at view_is gap there =
 
 -- an accepted freeze has a draft
 pub draft-accepted : (t : TablesState) (name : List ℕ) (version : ℕ) → Accepts t (change.Freeze name version) → IsSome (draft_of t name)
-draft-accepted t name version accepts = let new = IsNewText-accepted t name version accepts in rw new.is refl
+draft-accepted t name version accepts = let new = IsNewText-accepted t name version accepts.accepted in rw new.is refl
 
 -- it is one of the tables without room too
 pub draft-reserved : (a : Inside) (v : TablesValue) (c : Change) (name : List ℕ) (version : ℕ) → tables_held a ≡ v → Accepts v.state c → c ≡ change.Freeze name version → IsSome (draft_of (state_held a) name)

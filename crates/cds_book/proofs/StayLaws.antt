@@ -173,7 +173,7 @@ trace_versions_of-carried t name signal =
 -- a draft is frozen as the version of the number that was named
 pub method_versions_of-carried : (t : TablesState) (name : List ℕ) (version : ℕ) → Accepts t (change.Freeze name version) → method_versions_of (carried t (change.Freeze name version)) name ≡ Some version
 method_versions_of-carried t name version accepts =
-    let new = IsNewText-accepted t name version accepts in
+    let new = IsNewText-accepted t name version accepts.accepted in
     let versions = texts_of t name ++ new.draft ∷ [] in
     let found = method_versions_of-found (with_method t name new.draft versions) name _ (method_named-with t name new.draft versions) in
     let grown : length versions ≡ version = length-append (texts_of t name) (new.draft ∷ []) ∙ sym new.next in

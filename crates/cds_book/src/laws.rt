@@ -26,7 +26,8 @@ pub fn rules_are_kept()
 
 /// A change that was carried out, asked for again, changes nothing.
 pub fn a_repeated_change_changes_nothing()
-    ensures { (tables : TablesState) (c : Changed) → Accepts tables c → planned (applied tables c) (command_of c) ≡ Ok plan.Unchanged }
+    ensures { (tables : TablesState) (c : Changed) → planned tables (command_of c) ≡ Ok (plan.Change c)
+        → planned (applied tables c) (command_of c) ≡ Ok plan.Unchanged }
 {}
 
 /// A trace is put as the next version of its name.

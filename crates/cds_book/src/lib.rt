@@ -18,6 +18,7 @@ mod laws;
 mod limits;
 mod look;
 mod made;
+mod numbers;
 mod over;
 mod plan;
 mod plan_sequence;
@@ -44,6 +45,7 @@ pub use limits::{
     MOST_METHOD_VERSIONS, MOST_METHODS, MOST_ROWS_IN_ALL, MOST_SAMPLES_IN_ALL, MOST_SEQUENCES,
     MOST_SIGNED_BYTES, MOST_TRACE_NAMES, MOST_TRACE_VERSIONS,
 };
+pub use numbers::SequenceNumbers;
 pub use tables::Tables;
 
 #[cfg(test)]

@@ -80,7 +80,7 @@ impl Tables {
     }
 
     // The next edition of a sequence, 1 for a new one.
-    fn next_edition(&self, name: Name) -> u64
+    pub(crate) fn next_edition(&self, name: Name) -> u64
         ensures { result ≡ edition_of self.now.state name + 1 }
     {
         self.edition(name) + 1
@@ -88,7 +88,7 @@ impl Tables {
 
     // The basis of a sequence, 1 for a new one.
     #[tactic(auto, unfolding(crate::specs::Plan::basis_of))]
-    fn basis(&self, name: Name) -> u64
+    pub(crate) fn basis(&self, name: Name) -> u64
         ensures { result ≡ basis_of self.now.state name }
     {
         let Some(sequence) = self.sequence(name) else {
