@@ -15,20 +15,20 @@ use Rattle.cds_wire.specs.declared.answer.Answer.{Answer}
 use Rattle.cds_wire.specs.declared.answer.Answer.TheVariants as answer
 use Rattle.cds_sign.specs.declared.sequence.Sequence.{Sequence}
 use Rattle.cds_sign.specs.declared.signed.Signed.{Signed}
-use Rattle.cds_desk.specs.Dates.{date_of}
+use Rattle.cds_report.specs.Dates.{date_of}
 use Rattle.cds_desk.specs.State.{State, with_change}
 use Rattle.cds_desk.specs.Refusals.{plan_reply}
 use Rattle.cds_desk.specs.declared.judged.Judged.{Judged}
 use Rattle.cds_desk.specs.declared.judged.Judged.TheVariants as judging
 
--- a command that a route makes: those of sequences and of signatures have no route yet
+-- a command that a route makes: signatures have no route yet
 abbrev pub IsRouted : Command → Type 0
 IsRouted (command.Trace name signal) = ⊤
 IsRouted (command.Draft name text) = ⊤
 IsRouted (command.Freeze name version) = ⊤
-IsRouted (command.Sequence name edition method version standards rows) = ⊥
-IsRouted (command.Events name edition row events) = ⊥
-IsRouted (command.Rebind name edition version) = ⊥
+IsRouted (command.Sequence name edition method version standards rows) = ⊤
+IsRouted (command.Events name edition row events) = ⊤
+IsRouted (command.Rebind name edition version) = ⊤
 IsRouted (command.Sign sequence number basis moment name meaning text) = ⊥
 
 -- a change that is planned in this state, whose parts are in their ranges, and that a route asks for

@@ -6,7 +6,6 @@ pub mod Routes
 pub mod Judged
 pub mod Refusals
 pub mod Commands
-pub mod Dates
 pub mod Step
 pub mod Service
 pub mod Serving

@@ -1,1 +1,2 @@
 pub mod PeaksText
+pub mod Dates

@@ -1,6 +1,6 @@
 -- The date of a moment, as it is told to a client: in the form that RFC 9110 asks for, by the Gregorian calendar.
-use Rattle.std.specs.Prelude.{ℕ, ◌+◌, ◌-◌, ◌/◌, ◌%◌, nat_lt, List}
-use Rattle.cds_base.specs.Search.{least}
+use Rattle.std.specs.Prelude.{ℕ, ◌+◌, ◌-◌, ◌/◌, ◌%◌, nat_le, List}
+use Rattle.cds_base.specs.Search.{greatest}
 use Rattle.httpdate.specs.Calendar.{days_of_years, days_of_months, weekday}
 use Rattle.httpdate.specs.Text.{imf_fixdate}
 use Rattle.httpdate.specs.declared.parts.Parts.{Parts}
@@ -8,11 +8,11 @@ use Rattle.httpdate.specs.declared.parts.Parts.{Parts}
 -- how many whole years lie between the beginning of 1970 and a day, of which there are so many before it; no moment is
 -- behind the year 9999
 abbrev pub years_before : ℕ → ℕ
-years_before days = least (λ years. nat_lt days (days_of_years (years + 1))) 0 8029
+years_before days = greatest (λ years. nat_le (days_of_years years) days) 8029
 
 -- how many whole months of its year lie before a day
 abbrev pub months_before : ℕ → ℕ → ℕ
-months_before year days = least (λ months. nat_lt days (days_of_months year (months + 1))) 0 11
+months_before year days = greatest (λ months. nat_le (days_of_months year months) days) 11
 
 -- the parts of the day before which there are so many days since the beginning of 1970, and of a second of it
 abbrev pub parts_of_day : ℕ → ℕ → Parts
