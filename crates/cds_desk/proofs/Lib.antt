@@ -7,3 +7,4 @@ pub mod RepeatLaws
 pub mod SessionLaws
 pub mod StatusLaws
 pub mod RouteLaws
+pub mod BodyLaws

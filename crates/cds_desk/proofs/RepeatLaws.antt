@@ -1,15 +1,13 @@
 -- A request that changed the state, repeated at once; and a request that is refused.
-use Rattle.std.proofs.Common.{◌≡◌, ℕ, ◌≤◌, Bool, true, false, List, Option, Some, None, Result, Ok, Err, refl, sym, ap, ◌∙◌, subst, arith}
-use Rattle.std.specs.Prelude.{IfSome, IsTrue, is_some, bytes_eq}
-use Rattle.cds_base.specs.NameText.{IsName}
+use Rattle.std.proofs.Common.{◌≡◌, ℕ, ◌≤◌, Bool, true, false, List, Option, Some, None, Result, Ok, Err, refl, sym, ap, ◌∙◌, arith}
+use Rattle.std.specs.Prelude.{IsTrue, is_some, bytes_eq}
 use Rattle.cds_rules.specs.Fields.{Fields}
 use Rattle.cds_rules.specs.Stated.{stated}
 use Rattle.cds_rules.specs.declared.error.MethodError.{MethodError}
 use Rattle.cds_trace.specs.Signal.{Signal}
 use Rattle.cds_trace.specs.TraceText.{csv_trace}
 use Rattle.cds_trace.specs.declared.error.TraceError.{TraceError}
-use Rattle.cds_book.specs.Kept.{IsMethod}
-use Rattle.cds_book.specs.Plan.{planned, applied, command_of, Accepts, IsCommand}
+use Rattle.cds_book.specs.Plan.{planned, applied, command_of}
 use Rattle.cds_book.specs.Tables.{TablesState, draft_of, sequence_of, signed_of}
 use Rattle.cds_sign.specs.declared.sequence.Sequence.{Sequence}
 use Rattle.cds_sign.specs.declared.signed.Signed.{Signed}
@@ -21,18 +19,18 @@ use Rattle.cds_book.specs.declared.command.Plan.TheVariants as plan
 use Rattle.cds_book.specs.declared.error.PlanError.{PlanError}
 use Rattle.cds_http.specs.Items.{Message}
 use Rattle.cds_wire.specs.Stated.{body as stated_in, freeze_of}
+use Rattle.cds_wire.specs.Stated.{sequence_of as stated_sequence, put_events_of, reprocess_of}
 use Rattle.cds_wire.specs.declared.error.BodyError.{BodyError}
 use Rattle.cds_desk.specs.State.{State, after_change}
 use Rattle.cds_desk.specs.Routes.{target_of, method_of as method_on}
 use Rattle.cds_desk.specs.Judged.{reply_of, change_of}
 use Rattle.cds_desk.specs.Commands.{answer_of, sequence_answer, signature_answer, draft_status, sequence_status, made_status, decided, commanded}
-use Rattle.cds_desk.specs.Step.{judged, judged_on, judged_method, judged_route, trace_put, draft_put, draft_frozen}
+use Rattle.cds_desk.specs.Step.{judged, judged_on, judged_method, judged_route, trace_put, draft_put, draft_frozen, asked_in}
 use Rattle.cds_desk.specs.Repeat.{IsUnchanged, says_unchanged}
 use Rattle.cds_desk.specs.declared.judged.Judged.{Judged}
 use Rattle.cds_desk.specs.declared.target.Target.{Target}
 use Rattle.cds_desk.specs.declared.routes.Route.{Route}
 use Rattle.cds_desk.specs.declared.routes.Route.TheVariants as route
-use Rattle.cds_desk.proofs.CommandLaws.{method_length, stated_trace, target_named}
 
 says_sequence : (s : Option Sequence) → says_unchanged (sequence_answer true s) ≡ true
 says_sequence (Some s) = refl
@@ -58,66 +56,66 @@ Again judging state = IsTrue (is_some (change_of (judging state))) → IsUnchang
 
 -- a change that is planned is what was asked for, and a change that was carried out, asked for again, changes nothing
 module _ (asked_for : (tables : TablesState) (asked : Command) (c : Change) → planned tables asked ≡ Ok (plan.Change c) → command_of c ≡ asked)
-    (once_more : (tables : TablesState) (c : Change) → Accepts tables c → planned (applied tables c) (command_of c) ≡ Ok plan.Unchanged) where
+    (once_more : (tables : TablesState) (c : Change) → planned tables (command_of c) ≡ Ok (plan.Change c)
+        → planned (applied tables c) (command_of c) ≡ Ok plan.Unchanged) where
   -- a command that is unchanged is answered so
   unchanged : (state : State) (asked : Command) → planned state.tables asked ≡ Ok plan.Unchanged → IsUnchanged (commanded state asked)
   unchanged state asked is = rw is (refl, answer_of asked true state, refl, says_so asked state)
 
   -- a command that changed something, once more, is unchanged
-  decided_again : (state : State) (asked : Command) (p : Result Plan PlanError) → IsCommand asked → planned state.tables asked ≡ p
+  decided_again : (state : State) (asked : Command) (p : Result Plan PlanError) → planned state.tables asked ≡ p
       → IsTrue (is_some (change_of (decided state asked p))) → IsUnchanged (commanded (after_change state (change_of (decided state asked p))) asked)
-  decided_again state asked (Ok plan.Unchanged) may is some = absurd (cc)
-  decided_again state asked (Err e) may is some = absurd (cc)
-  decided_again state asked (Ok (plan.Change c)) may is some =
+  decided_again state asked (Ok plan.Unchanged) is some = absurd (cc)
+  decided_again state asked (Err e) is some = absurd (cc)
+  decided_again state asked (Ok (plan.Change c)) is some =
       let asks : command_of c ≡ asked = asked_for state.tables asked c is in
-      let accepts : Accepts state.tables c = record {
-        command = subst IsCommand (sym asks) may;
-        accepted = ap (planned state.tables) asks ∙ is;
-      } in
-      unchanged (after_change state (Some c)) asked (ap (planned (applied state.tables c)) (sym asks) ∙ once_more state.tables c accepts)
+      let accepted : planned state.tables (command_of c) ≡ Ok (plan.Change c) = ap (planned state.tables) asks ∙ is in
+      unchanged (after_change state (Some c)) asked (ap (planned (applied state.tables c)) (sym asks) ∙ once_more state.tables c accepted)
 
-  command_again : (state : State) (asked : Command) → IsCommand asked → Again (λ s. commanded s asked) state
-  command_again state asked may some = decided_again state asked (planned state.tables asked) may refl some
+  command_again : (state : State) (asked : Command) → Again (λ s. commanded s asked) state
+  command_again state asked some = decided_again state asked (planned state.tables asked) refl some
 
-  trace_again : (state : State) (name body : List ℕ) (r : Result Signal TraceError) → IsName name → csv_trace body ≡ r
-      → Again (λ s. trace_put s name r) state
-  trace_again state name body (Err e) is stated some = absurd (cc)
-  trace_again state name body (Ok signal) is stated some =
-      command_again state (command.Trace name signal) ((is, stated_trace body signal stated), tt) some
+  trace_again : (state : State) (name : List ℕ) (r : Result Signal TraceError) → Again (λ s. trace_put s name r) state
+  trace_again state name (Err e) some = absurd (cc)
+  trace_again state name (Ok signal) some = command_again state (command.Trace name signal) some
 
-  draft_again : (state : State) (name text : List ℕ) (r : Result Fields MethodError) → IsName name → stated text ≡ r
-      → Again (λ s. draft_put s name text r) state
-  draft_again state name text (Err e) named is some = absurd (cc)
-  draft_again state name text (Ok method) named is some =
-      let may : IsMethod text = rw is refl in
-      let few = method_length text may in
-      command_again state (command.Draft name text) ((named, omega (arith, few)), may) some
+  draft_again : (state : State) (name text : List ℕ) (r : Result Fields MethodError) → Again (λ s. draft_put s name text r) state
+  draft_again state name text (Err e) some = absurd (cc)
+  draft_again state name text (Ok method) some = command_again state (command.Draft name text) some
 
-  freeze_again : (state : State) (name : List ℕ) (r : Result ℕ BodyError) → IsName name → Again (λ s. draft_frozen s name r) state
-  freeze_again state name (Err e) is some = absurd (cc)
-  freeze_again state name (Ok version) is some = command_again state (command.Freeze name version) (is, tt) some
+  freeze_again : (state : State) (name : List ℕ) (r : Result ℕ BodyError) → Again (λ s. draft_frozen s name r) state
+  freeze_again state name (Err e) some = absurd (cc)
+  freeze_again state name (Ok version) some = command_again state (command.Freeze name version) some
 
-  target_again : (state : State) (r : Route) (name : List ℕ) (number : ℕ) (body : List ℕ) → IsName name
-      → Again (λ s. judged_on s r name number body) state
-  target_again state route.PutTrace name number body is some = trace_again state name body (csv_trace body) is refl some
-  target_again state route.PutDraft name number body is some = draft_again state name body (stated body) is refl some
-  target_again state route.PostVersion name number body is some = freeze_again state name (stated_in freeze_of body) is some
-  target_again state route.GetTrace name version body is some = absurd (cc)
-  target_again state route.GetMethod name version body is some = absurd (cc)
+  asked_again : (state : State) (r : Result Command BodyError) → Again (λ s. asked_in s r) state
+  asked_again state (Err e) some = absurd (cc)
+  asked_again state (Ok asked) some = command_again state asked some
 
-  method_again : (state : State) (t : Target) (method body : List ℕ) (same : Bool) → IsName t.name → bytes_eq method (method_on t.route) ≡ same
+  target_again : (state : State) (r : Route) (name : List ℕ) (number : ℕ) (body : List ℕ) → Again (λ s. judged_on s r name number body) state
+  unfolding judged_on
+  target_again state route.PutTrace name number body some = trace_again state name (csv_trace body) some
+  target_again state route.PutDraft name number body some = draft_again state name body (stated body) some
+  target_again state route.PostVersion name number body some = freeze_again state name (stated_in freeze_of body) some
+  target_again state route.PutSequence name number body some = asked_again state (stated_in (stated_sequence name) body) some
+  target_again state route.PutEvents name row body some = asked_again state (stated_in (put_events_of name row) body) some
+  target_again state route.PostReprocess name number body some = asked_again state (stated_in (reprocess_of name) body) some
+  target_again state route.GetTrace name version body some = absurd (cc)
+  target_again state route.GetMethod name version body some = absurd (cc)
+  target_again state route.GetSignature name number body some = absurd (cc)
+
+  method_again : (state : State) (t : Target) (method body : List ℕ) (same : Bool) → bytes_eq method (method_on t.route) ≡ same
       → Again (λ s. judged_method s t method body) state
-  method_again state t method body true named is some = rw is (target_again state t.route t.name t.number body named (rw is at some))
-  method_again state t method body false named is some = absurd (let no = rw is at some in cc)
+  method_again state t method body true is some = rw is (target_again state t.route t.name t.number body (rw is at some))
+  method_again state t method body false is some = absurd (let no = rw is at some in cc)
 
   -- the request is judged as unchanged
   pub repeated : (state : State) (m : Message) (moment again : ℕ) → IsTrue (is_some (change_of (judged state m moment)))
       → IsUnchanged (judged (after_change state (change_of (judged state m moment))) m again)
-  repeated state m moment again = on (target_of m.target) (target_named m.target)
+  repeated state m moment again = on (target_of m.target)
     where
-      on : (t : Option Target) → IfSome t (λ named. IsName named.name) → Again (λ s. judged_route s t m.method m.body) state
-      on None is some = absurd (cc)
-      on (Some t) is some = method_again state t m.method m.body (bytes_eq m.method (method_on t.route)) is refl some
+      on : (t : Option Target) → Again (λ s. judged_route s t m.method m.body) state
+      on None some = absurd (cc)
+      on (Some t) some = method_again state t m.method m.body (bytes_eq m.method (method_on t.route)) refl some
 
 -- ---- refusals
 
@@ -162,12 +160,21 @@ freeze_unmade : (state : State) (name : List ℕ) (r : Result ℕ BodyError) →
 freeze_unmade state name (Ok version) = command_unmade state (command.Freeze name version)
 freeze_unmade state name (Err e) = λ is. refl
 
+asked_unmade : (state : State) (r : Result Command BodyError) → Unmade (asked_in state r)
+asked_unmade state (Ok asked) = command_unmade state asked
+asked_unmade state (Err e) = λ is. refl
+
 target_unmade : (state : State) (r : Route) (name : List ℕ) (number : ℕ) (body : List ℕ) → Unmade (judged_on state r name number body)
+unfolding judged_on
 target_unmade state route.PutTrace name number body = trace_unmade state name (csv_trace body)
 target_unmade state route.PutDraft name number body = draft_unmade state name body (stated body)
 target_unmade state route.PostVersion name number body = freeze_unmade state name (stated_in freeze_of body)
 target_unmade state route.GetTrace name version body = λ is. refl
 target_unmade state route.GetMethod name version body = λ is. refl
+target_unmade state route.PutSequence name number body = asked_unmade state (stated_in (stated_sequence name) body)
+target_unmade state route.PutEvents name row body = asked_unmade state (stated_in (put_events_of name row) body)
+target_unmade state route.PostReprocess name number body = asked_unmade state (stated_in (reprocess_of name) body)
+target_unmade state route.GetSignature name number body = λ is. refl
 
 method_unmade : (state : State) (t : Target) (method body : List ℕ) (same : Bool) → bytes_eq method (method_on t.route) ≡ same → Unmade (judged_method state t method body)
 method_unmade state t method body true is = rw is (target_unmade state t.route t.name t.number body)

@@ -258,6 +258,38 @@ get_method b w d ds h g =
     let last = found_last (codes "/versions/") d ds rows _ g (rw none refl) refl refl in
     record { entry = _; is = found_behind (codes "/methods/") b w (codes "versions/" ++ (d ∷ ds)) route_table _ h (rw no refl) (rw (cuts_one b w) refl) last; value = refl }
 
+put_sequence : (b : ℕ) (w : List ℕ) → ArePlain (b ∷ w) → Found route.PutSequence (codes "/sequences/" ++ b ∷ w)
+unfolding matchit_on_literals
+put_sequence b w h =
+    let no = differs 256 b (λ e. h.0.token (sym e)) in
+    record { entry = _; is = found_last (codes "/sequences/") b w route_table _ h (rw no refl) (rw (cuts_not (b ∷ w) h) refl) refl; value = refl }
+
+put_events : (b : ℕ) (w : List ℕ) (d : ℕ) (ds : List ℕ) → ArePlain (b ∷ w) → ArePlain (d ∷ ds)
+    → Found route.PutEvents (codes "/sequences/" ++ (b ∷ w ++ (codes "/rows/" ++ (d ∷ ds ++ codes "/events"))))
+unfolding matchit_on_literals
+put_events b w d ds h g =
+    let no = differs 256 b (λ e. h.0.token (sym e)) in
+    let none = differs 256 d (λ e. g.0.token (sym e)) in
+    let rows = with_suffix (47 ∷ []) (step param_token (behind (codes "/sequences/") route_table)) in
+    let behind_row = found_behind (codes "/rows/") d ds (codes "events") rows _ g (rw none refl) (rw (cuts_one d ds) refl) refl in
+    record { entry = _; is = found_behind (codes "/sequences/") b w (codes "rows/" ++ (d ∷ ds ++ codes "/events")) route_table _ h (rw no refl) (rw (cuts_one b w) refl) behind_row; value = refl }
+
+post_reprocess : (b : ℕ) (w : List ℕ) → ArePlain (b ∷ w) → Found route.PostReprocess (codes "/sequences/" ++ (b ∷ w ++ codes "/reprocess"))
+unfolding matchit_on_literals
+post_reprocess b w h =
+    let no = differs 256 b (λ e. h.0.token (sym e)) in
+    record { entry = _; is = found_behind (codes "/sequences/") b w (codes "reprocess") route_table _ h (rw no refl) (rw (cuts_one b w) refl) refl; value = refl }
+
+get_signature : (b : ℕ) (w : List ℕ) (d : ℕ) (ds : List ℕ) → ArePlain (b ∷ w) → ArePlain (d ∷ ds)
+    → Found route.GetSignature (codes "/sequences/" ++ (b ∷ w ++ (codes "/signatures/" ++ (d ∷ ds))))
+unfolding matchit_on_literals
+get_signature b w d ds h g =
+    let no = differs 256 b (λ e. h.0.token (sym e)) in
+    let none = differs 256 d (λ e. g.0.token (sym e)) in
+    let rows = with_suffix (47 ∷ []) (step param_token (behind (codes "/sequences/") route_table)) in
+    let last = found_last (codes "/signatures/") d ds rows _ g (rw none refl) refl refl in
+    record { entry = _; is = found_behind (codes "/sequences/") b w (codes "signatures/" ++ (d ∷ ds)) route_table _ h (rw no refl) (rw (cuts_one b w) refl) last; value = refl }
+
 -- ---- names and numbers
 
 true_of : (b : Bool) → IsTrue b → b ≡ true
@@ -319,6 +351,15 @@ methods_plain = are_plain is_name_byte refl refl refl (codes "methods") refl
 versions_plain : ArePlain (codes "versions")
 versions_plain = are_plain is_name_byte refl refl refl (codes "versions") refl
 
+sequences_plain : ArePlain (codes "sequences")
+sequences_plain = are_plain is_name_byte refl refl refl (codes "sequences") refl
+
+rows_plain : ArePlain (codes "rows")
+rows_plain = are_plain is_name_byte refl refl refl (codes "rows") refl
+
+signatures_plain : ArePlain (codes "signatures")
+signatures_plain = are_plain is_name_byte refl refl refl (codes "signatures") refl
+
 -- each route is found by the path that is written for it
 pub route_found : (r : Route) (name digits : List ℕ) (number : ℕ) → IsName name → path_number digits ≡ Some number
     → target_of (path_with r name digits) ≡ Some (record { route = r; name = name; number = number_of_path r number })
@@ -360,5 +401,43 @@ route_found route.GetMethod (b ∷ w) (d ∷ ds) number named numbered =
     fourth_is (codes "methods") rest methods_plain
     ∙ ap (λ (x : List ℕ). before_first is_slash (after_first is_slash x)) (after_plain (b ∷ w) (codes "versions/" ++ (d ∷ ds)) h)
     ∙ ap (before_first is_slash) (after_plain (codes "versions") (d ∷ ds) versions_plain)
+    ∙ before_all (d ∷ ds) g
+    ) ∙ numbered)
+route_found route.PutSequence (b ∷ w) (d ∷ ds) number named numbered =
+    let h = name_plain (b ∷ w) named in
+    target_is route.PutSequence (codes "/sequences/" ++ (b ∷ w)) (b ∷ w) 0 (put_sequence b w h)
+    (unmarked_both (codes "/sequences/") (b ∷ w) refl (plain_unmarked (b ∷ w) h))
+    (second_is (codes "sequences") (b ∷ w) sequences_plain ∙ before_all (b ∷ w) h) named refl
+route_found route.PutEvents (b ∷ w) (d ∷ ds) number named numbered =
+    let h = name_plain (b ∷ w) named in
+    let g = digits_plain (d ∷ ds) number numbered in
+    let last : List ℕ = d ∷ ds ++ codes "/events" in
+    let rest : List ℕ = b ∷ w ++ (codes "/rows/" ++ last) in
+    target_is route.PutEvents (codes "/sequences/" ++ rest) (b ∷ w) number (put_events b w d ds h g)
+    (unmarked_both (codes "/sequences/") rest refl (unmarked_both (b ∷ w) (codes "/rows/" ++ last) (plain_unmarked (b ∷ w) h) (unmarked_both (d ∷ ds) (codes "/events") (plain_unmarked (d ∷ ds) g) refl)))
+    (second_is (codes "sequences") rest sequences_plain ∙ name_cut (b ∷ w) (codes "rows/" ++ last) h) named
+    (ap path_number (
+    fourth_is (codes "sequences") rest sequences_plain
+    ∙ ap (λ (x : List ℕ). before_first is_slash (after_first is_slash x)) (after_plain (b ∷ w) (codes "rows/" ++ last) h)
+    ∙ ap (before_first is_slash) (after_plain (codes "rows") last rows_plain)
+    ∙ name_cut (d ∷ ds) (codes "events") g
+    ) ∙ numbered)
+route_found route.PostReprocess (b ∷ w) (d ∷ ds) number named numbered =
+    let h = name_plain (b ∷ w) named in
+    let rest : List ℕ = b ∷ w ++ codes "/reprocess" in
+    target_is route.PostReprocess (codes "/sequences/" ++ rest) (b ∷ w) 0 (post_reprocess b w h)
+    (unmarked_both (codes "/sequences/") rest refl (unmarked_both (b ∷ w) (codes "/reprocess") (plain_unmarked (b ∷ w) h) refl))
+    (second_is (codes "sequences") rest sequences_plain ∙ name_cut (b ∷ w) (codes "reprocess") h) named refl
+route_found route.GetSignature (b ∷ w) (d ∷ ds) number named numbered =
+    let h = name_plain (b ∷ w) named in
+    let g = digits_plain (d ∷ ds) number numbered in
+    let rest : List ℕ = b ∷ w ++ (codes "/signatures/" ++ (d ∷ ds)) in
+    target_is route.GetSignature (codes "/sequences/" ++ rest) (b ∷ w) number (get_signature b w d ds h g)
+    (unmarked_both (codes "/sequences/") rest refl (unmarked_both (b ∷ w) (codes "/signatures/" ++ (d ∷ ds)) (plain_unmarked (b ∷ w) h) (plain_unmarked (d ∷ ds) g)))
+    (second_is (codes "sequences") rest sequences_plain ∙ name_cut (b ∷ w) (codes "signatures/" ++ (d ∷ ds)) h) named
+    (ap path_number (
+    fourth_is (codes "sequences") rest sequences_plain
+    ∙ ap (λ (x : List ℕ). before_first is_slash (after_first is_slash x)) (after_plain (b ∷ w) (codes "signatures/" ++ (d ∷ ds)) h)
+    ∙ ap (before_first is_slash) (after_plain (codes "signatures") (d ∷ ds) signatures_plain)
     ∙ before_all (d ∷ ds) g
     ) ∙ numbered)

@@ -1,6 +1,6 @@
 -- A step answers neither 503 nor 507.
 use Rattle.std.proofs.Common.{◌≡◌, ◌<◌, ℕ, Bool, true, false, List, Option, Some, None, Result, Ok, Err, refl, arith}
-use Rattle.std.specs.Prelude.{◌≢◌, bytes_eq, option_map}
+use Rattle.std.specs.Prelude.{◌≢◌, bytes_eq, is_some, option_map}
 use Rattle.cds_rules.specs.Fields.{Fields}
 use Rattle.cds_rules.specs.Stated.{stated}
 use Rattle.cds_rules.specs.declared.error.MethodError.{MethodError}
@@ -9,8 +9,9 @@ use Rattle.cds_trace.specs.TraceText.{csv_trace}
 use Rattle.cds_trace.specs.WrittenText.{csv_text}
 use Rattle.cds_trace.specs.declared.error.TraceError.{TraceError}
 use Rattle.cds_book.specs.Plan.{planned, command_of}
-use Rattle.cds_book.specs.Tables.{trace_of, trace_versions_of, draft_of, method_of, method_versions_of, sequence_of}
+use Rattle.cds_book.specs.Tables.{trace_of, trace_versions_of, draft_of, method_of, method_versions_of, sequence_of, signed_of}
 use Rattle.cds_sign.specs.declared.sequence.Sequence.{Sequence}
+use Rattle.cds_sign.specs.declared.signed.Signed.{Signed}
 use Rattle.cds_sign.specs.declared.command.Command.{Command}
 use Rattle.cds_sign.specs.declared.command.Command.TheVariants as command
 use Rattle.cds_book.specs.declared.command.Plan.{Plan}
@@ -19,15 +20,16 @@ use Rattle.cds_book.specs.declared.error.PlanError.{PlanError}
 use Rattle.cds_book.specs.declared.error.PlanError.TheVariants as refused
 use Rattle.cds_http.specs.Items.{Message}
 use Rattle.cds_wire.specs.Stated.{body as stated_in, freeze_of}
+use Rattle.cds_wire.specs.Stated.{sequence_of as stated_sequence, put_events_of, reprocess_of}
 use Rattle.cds_wire.specs.declared.error.BodyError.{BodyError}
 use Rattle.cds_respond.specs.declared.reply.Content.{Content}
 use Rattle.cds_respond.specs.declared.reply.Content.TheVariants as content
 use Rattle.cds_desk.specs.State.{State}
 use Rattle.cds_desk.specs.Routes.{target_of, method_of as method_on}
 use Rattle.cds_desk.specs.Judged.{reply_of}
-use Rattle.cds_desk.specs.Refusals.{refused_field, body_reply, missing_method, missing_sequence, told_as}
+use Rattle.cds_desk.specs.Refusals.{refused_field, body_reply, absent_signature, missing_method, missing_sequence, told_as}
 use Rattle.cds_desk.specs.Commands.{draft_status, sequence_status, made_status, decided, commanded}
-use Rattle.cds_desk.specs.Step.{step, judged_on, judged_method, judged_route, trace_put, draft_put, draft_frozen, version_shown}
+use Rattle.cds_desk.specs.Step.{step, judged_on, judged_method, judged_route, trace_put, draft_put, draft_frozen, asked_in, signature_shown, version_shown}
 use Rattle.cds_desk.specs.declared.judged.Judged.{Judged}
 use Rattle.cds_desk.specs.declared.target.Target.{Target}
 use Rattle.cds_desk.specs.declared.routes.Route.{Route}
@@ -120,12 +122,31 @@ freeze-plain : (state : State) (name : List ℕ) (r : Result ℕ BodyError) → 
 freeze-plain state name (Ok version) = command-plain state (command.Freeze name version)
 freeze-plain state name (Err error) = body-plain (refused_field error)
 
+asked-plain : (state : State) (r : Result Command BodyError) → IsPlain (asked_in state r)
+asked-plain state (Ok asked) = command-plain state asked
+asked-plain state (Err error) = body-plain (refused_field error)
+
+absent-plain : (name : List ℕ) (number : ℕ) (has_sequence : Bool) → Plain (absent_signature name number has_sequence).status
+absent-plain name number true = omega arith
+absent-plain name number false = omega arith
+
+signature-plain : (name : List ℕ) (number : ℕ) (sequence : Option Sequence) (signed : Option Signed)
+    → Plain (signature_shown name number sequence signed).status
+signature-plain name number sequence (Some signed) = omega arith
+signature-plain name number sequence None = absent-plain name number (is_some sequence)
+
 target-plain : (state : State) (r : Route) (name : List ℕ) (number : ℕ) (body : List ℕ) → IsPlain (judged_on state r name number body)
+unfolding judged_on
 target-plain state route.PutTrace name number body = trace-plain state name (csv_trace body)
 target-plain state route.GetTrace name version body = shown-plain 1 name version (trace_versions_of state.tables name) content.Csv (option_map csv_text (trace_of state.tables name version))
 target-plain state route.PutDraft name number body = draft-plain state name body (stated body)
 target-plain state route.PostVersion name number body = freeze-plain state name (stated_in freeze_of body)
 target-plain state route.GetMethod name version body = shown-plain 2 name version (method_versions_of state.tables name) content.Toml (method_of state.tables name version)
+target-plain state route.PutSequence name number body = asked-plain state (stated_in (stated_sequence name) body)
+target-plain state route.PutEvents name row body = asked-plain state (stated_in (put_events_of name row) body)
+target-plain state route.PostReprocess name number body = asked-plain state (stated_in (reprocess_of name) body)
+target-plain state route.GetSignature name number body =
+    signature-plain name number (sequence_of state.tables name) (signed_of state.tables name number)
 
 method-plain : (state : State) (t : Target) (method body : List ℕ) (same : Bool) → bytes_eq method (method_on t.route) ≡ same → IsPlain (judged_method state t method body)
 method-plain state t method body true is = rw is (target-plain state t.route t.name t.number body)

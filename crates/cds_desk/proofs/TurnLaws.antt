@@ -126,9 +126,9 @@ short : (change : Change) → IsCommand (command_of change) → IsRouted (comman
 short (changes.Trace name signal) may is = omega arith
 short (changes.Draft name text) may is = let few = method_length text may.1 in omega (arith, few)
 short (changes.Freeze name version) may is = omega arith
-short (changes.Sequence name edition method version standards rows) may is = absurd is
-short (changes.Events name edition row events) may is = absurd is
-short (changes.Rebind name edition version) may is = absurd is
+short (changes.Sequence name edition method version standards rows) may is = omega arith
+short (changes.Events name edition row events) may is = omega arith
+short (changes.Rebind name edition version) may is = omega arith
 short (changes.Sign sequence number basis moment name meaning text) may is = absurd is
 
 -- and a short one

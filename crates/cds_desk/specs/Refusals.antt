@@ -1,5 +1,5 @@
 -- What is replied to a request that is refused. This project's own form.
-use Rattle.std.specs.Prelude.{ℕ, List, [], codes, Option, Some, None, unwrap_or}
+use Rattle.std.specs.Prelude.{ℕ, Bool, true, false, List, [], codes, Option, Some, None, unwrap_or}
 use Rattle.cds_trace.specs.Refusal.{number_of_refusal as number_of_trace_refusal, record_of_refusal}
 use Rattle.cds_trace.specs.declared.error.TraceError.{TraceError}
 use Rattle.cds_rules.specs.Refusal.{number_of_refusal as number_of_method_refusal, field_of_refusal}
@@ -60,6 +60,11 @@ absent_reply number value = refusal_reply 404 (codes "absent") number value
 abbrev pub absent_version : ℕ → List ℕ → ℕ → Option ℕ → Reply
 absent_version number name version (Some count) = absent_reply 3 (Number version)
 absent_version number name version None = absent_reply number (Word name)
+
+-- A signature isn't there: its number is shown where the sequence is there, and else the name of the sequence.
+abbrev pub absent_signature : List ℕ → ℕ → Bool → Reply
+absent_signature name number true = absent_reply 6 (Number number)
+absent_signature name number false = absent_reply 4 (Word name)
 
 -- ---- what the tables refuse
 

@@ -24,6 +24,10 @@ pattern_of route.GetTrace = codes "/traces/{name}/{version}"
 pattern_of route.PutDraft = codes "/methods/{name}/draft"
 pattern_of route.PostVersion = codes "/methods/{name}/versions"
 pattern_of route.GetMethod = codes "/methods/{name}/versions/{version}"
+pattern_of route.PutSequence = codes "/sequences/{name}"
+pattern_of route.PutEvents = codes "/sequences/{name}/rows/{number}/events"
+pattern_of route.PostReprocess = codes "/sequences/{name}/reprocess"
+pattern_of route.GetSignature = codes "/sequences/{name}/signatures/{number}"
 
 -- the one method of a route
 abbrev pub method_of : Route → List ℕ
@@ -32,6 +36,10 @@ method_of route.GetTrace = codes "GET"
 method_of route.PutDraft = codes "PUT"
 method_of route.PostVersion = codes "POST"
 method_of route.GetMethod = codes "GET"
+method_of route.PutSequence = codes "PUT"
+method_of route.PutEvents = codes "PUT"
+method_of route.PostReprocess = codes "POST"
+method_of route.GetSignature = codes "GET"
 
 -- the place of the number among the segments of its paths, if they have one; the name stands at place 2
 abbrev pub number_at : Route → Option ℕ
@@ -40,10 +48,16 @@ number_at route.GetTrace = Some 3
 number_at route.PutDraft = None
 number_at route.PostVersion = None
 number_at route.GetMethod = Some 4
+number_at route.PutSequence = None
+number_at route.PutEvents = Some 4
+number_at route.PostReprocess = None
+number_at route.GetSignature = Some 4
 
 -- all routes
 abbrev pub all_routes : List Route
-all_routes = route.PutTrace ∷ route.GetTrace ∷ route.PutDraft ∷ route.PostVersion ∷ route.GetMethod ∷ []
+all_routes =
+    route.PutTrace ∷ route.GetTrace ∷ route.PutDraft ∷ route.PostVersion ∷ route.GetMethod ∷ route.PutSequence
+    ∷ route.PutEvents ∷ route.PostReprocess ∷ route.GetSignature ∷ []
 
 -- the rows of `matchit` with one more, for a route whose pattern was read
 abbrev pub with_scan : Result Scan InsertError → Route → RowsOf (RouteOf Route) → RowsOf (RouteOf Route)
@@ -116,6 +130,11 @@ path_with route.GetTrace name digits = codes "/traces/" ++ (name ++ (codes "/" +
 path_with route.PutDraft name digits = codes "/methods/" ++ (name ++ codes "/draft")
 path_with route.PostVersion name digits = codes "/methods/" ++ (name ++ codes "/versions")
 path_with route.GetMethod name digits = codes "/methods/" ++ (name ++ (codes "/versions/" ++ digits))
+path_with route.PutSequence name digits = codes "/sequences/" ++ name
+path_with route.PutEvents name digits =
+    codes "/sequences/" ++ (name ++ (codes "/rows/" ++ (digits ++ codes "/events")))
+path_with route.PostReprocess name digits = codes "/sequences/" ++ (name ++ codes "/reprocess")
+path_with route.GetSignature name digits = codes "/sequences/" ++ (name ++ (codes "/signatures/" ++ digits))
 
 -- the number in the paths of a route that are written with this one: 0 where they have none
 abbrev pub number_of_path : Route → ℕ → ℕ

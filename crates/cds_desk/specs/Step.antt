@@ -1,6 +1,6 @@
 -- What the machine answers to a request, and what it changes: a function of what it holds, of the request and of the
 -- moment.
-use Rattle.std.specs.Prelude.{ℕ, List, [], ◌∷◌, bytes_eq, Option, Some, None, Result, Ok, Err, option_map}
+use Rattle.std.specs.Prelude.{ℕ, List, [], ◌∷◌, bytes_eq, Option, Some, None, Result, Ok, Err, option_map, is_some}
 use Rattle.std.specs.Prelude.{if◌then◌else◌}
 use Rattle.cds_trace.specs.Signal.{Signal}
 use Rattle.cds_trace.specs.TraceText.{csv_trace}
@@ -9,8 +9,11 @@ use Rattle.cds_trace.specs.declared.error.TraceError.{TraceError}
 use Rattle.cds_rules.specs.Fields.{Fields}
 use Rattle.cds_rules.specs.Stated.{stated}
 use Rattle.cds_rules.specs.declared.error.MethodError.{MethodError}
-use Rattle.cds_book.specs.Tables.{trace_of, trace_versions_of, method_of, method_versions_of}
+use Rattle.cds_book.specs.Tables.{trace_of, trace_versions_of, method_of, method_versions_of, sequence_of, signed_of}
+use Rattle.cds_sign.specs.declared.command.Command.{Command}
 use Rattle.cds_sign.specs.declared.command.Command.TheVariants as command
+use Rattle.cds_sign.specs.declared.sequence.Sequence.{Sequence}
+use Rattle.cds_sign.specs.declared.signed.Signed.{Signed}
 use Rattle.cds_sign.specs.declared.command.Change.{Change}
 use Rattle.cds_codec.specs.Record.{record_of}
 use Rattle.cds_http.specs.Items.{Message}
@@ -18,12 +21,13 @@ use Rattle.cds_respond.specs.declared.reply.Content.{Content}
 use Rattle.cds_respond.specs.declared.reply.Content.TheVariants as content
 use Rattle.cds_respond.specs.declared.reply.Reply.{Reply}
 use Rattle.cds_wire.specs.Stated.{body as stated_in, freeze_of}
+use Rattle.cds_wire.specs.Stated.{sequence_of as stated_sequence, put_events_of, reprocess_of}
 use Rattle.cds_wire.specs.declared.error.BodyError.{BodyError}
 use Rattle.cds_desk.specs.State.{State, after_change}
 use Rattle.cds_desk.specs.Routes.{target_of, method_of as method_on}
 use Rattle.cds_desk.specs.Judged.{reply_of, change_of}
 use Rattle.cds_desk.specs.Refusals.{no_route, other_method, csv_reply, toml_reply, refused_field, body_reply}
-use Rattle.cds_desk.specs.Refusals.{absent_version}
+use Rattle.cds_desk.specs.Refusals.{absent_version, absent_signature}
 use Rattle.cds_desk.specs.Commands.{commanded}
 use Rattle.cds_desk.specs.declared.judged.Judged.{Judged}
 use Rattle.cds_desk.specs.declared.judged.Judged.TheVariants as judging
@@ -49,6 +53,17 @@ abbrev pub draft_put : State → List ℕ → List ℕ → Result Fields MethodE
 draft_put state name text (Ok method) = commanded state (command.Draft name text)
 draft_put state name text (Err error) = judging.Reply (toml_reply error)
 
+-- the command that a body states, or the refusal of the body
+abbrev pub asked_in : State → Result Command BodyError → Judged
+asked_in state (Ok asked) = commanded state asked
+asked_in state (Err error) = judging.Reply (body_reply (refused_field error))
+
+-- the reply with the text of a signature, where it is there
+abbrev pub signature_shown : List ℕ → ℕ → Option Sequence → Option Signed → Reply
+signature_shown name number sequence (Some signed) =
+    record { status = 200; content = content.Plain; allow = None; body = signed.text }
+signature_shown name number sequence None = absent_signature name number (is_some sequence)
+
 -- the draft is frozen as the version that the body names
 abbrev pub draft_frozen : State → List ℕ → Result ℕ BodyError → Judged
 draft_frozen state name (Ok version) = commanded state (command.Freeze name version)
@@ -57,7 +72,7 @@ draft_frozen state name (Err error) = judging.Reply (body_reply (refused_field e
 -- ---- what is judged of a request
 
 -- what is judged of a request on this route, with the name and the number of its path
-abbrev pub judged_on : State → Route → List ℕ → ℕ → List ℕ → Judged
+unfoldable pub judged_on : State → Route → List ℕ → ℕ → List ℕ → Judged
 judged_on state route.PutTrace name number body = trace_put state name (csv_trace body)
 judged_on state route.GetTrace name version body =
     judging.Reply (version_shown 1 name version (trace_versions_of state.tables name) content.Csv
@@ -67,6 +82,11 @@ judged_on state route.PostVersion name number body = draft_frozen state name (st
 judged_on state route.GetMethod name version body =
     judging.Reply (version_shown 2 name version (method_versions_of state.tables name) content.Toml
     (method_of state.tables name version))
+judged_on state route.PutSequence name number body = asked_in state (stated_in (stated_sequence name) body)
+judged_on state route.PutEvents name row body = asked_in state (stated_in (put_events_of name row) body)
+judged_on state route.PostReprocess name number body = asked_in state (stated_in (reprocess_of name) body)
+judged_on state route.GetSignature name number body =
+    judging.Reply (signature_shown name number (sequence_of state.tables name) (signed_of state.tables name number))
 
 -- what is judged of a request with the right method
 abbrev pub judged_target : State → Target → List ℕ → Judged

@@ -1,13 +1,15 @@
 //! What a command comes to: nothing, a change, or a refusal; and what is replied to each.
 
-ghost use Rattle.std.specs.Prelude.{◌≡◌, ◌+◌, true, false, IfOk, IfSome, Some, unwrap_or};
+ghost use Rattle.std.specs.Prelude.{◌≡◌, ◌+◌, ℕ, List, true, false, IfOk, IfSome, Some, unwrap_or};
 ghost use Rattle.cds_trace.specs.Signal.{Signal};
-ghost use Rattle.cds_book.specs.Plan.{command_of, applied, Accepts, IsCommand};
-ghost use Rattle.cds_book.specs.Tables.{trace_versions_of, draft_of};
+ghost use Rattle.cds_book.specs.Plan.{command_of, applied, sequence_changed, Accepts, IsCommand};
+ghost use Rattle.cds_book.specs.Tables.{TablesState, trace_versions_of, draft_of, method_versions_of, sequence_of};
+ghost use Rattle.cds_wire.specs.declared.answer.Answer.TheVariants as answer;
 ghost use Rattle.cds_sign.specs.declared.command.Change.TheVariants as change;
 ghost use Rattle.cds_desk.specs.State.{with_change};
 ghost use Rattle.cds_desk.specs.Judged.{change_of};
-ghost use Rattle.cds_desk.specs.Commands.{IsPlanned, IsRouted, answer_of, draft_status, made_status, unchanged_reply};
+ghost use Rattle.cds_desk.specs.Commands.{IsPlanned, IsRouted, answer_of, draft_status, sequence_status};
+ghost use Rattle.cds_desk.specs.Commands.{made_status, sequence_answer, unchanged_reply};
 ghost use Rattle.cds_desk.specs.Commands.{changed_reply, commanded};
 
 use crate::judged::Judged;
@@ -68,7 +70,28 @@ fn unchanged_answer(state: &State, command: &Command) -> Answer
             unchanged: true,
             version: state.tables().method_versions(*name).unwrap_or(0),
         },
-        _ => unreachable!(),
+        Command::Sequence { name, .. }
+        | Command::Events { name, .. }
+        | Command::Rebind { name, .. } => kept_answer(state, *name),
+        Command::Sign { .. } => unreachable!(),
+    }
+}
+
+/// What is answered of a sequence to which nothing changes.
+fn kept_answer(state: &State, name: Name) -> Answer
+    ensures { result ≡ sequence_answer true (sequence_of state.now.held.tables name) }
+{
+    match state.tables().sequence(name) {
+        Some(sequence) => Answer::Sequence {
+            basis: sequence.basis,
+            edition: sequence.edition,
+            unchanged: true,
+        },
+        None => Answer::Sequence {
+            basis: 0,
+            edition: 0,
+            unchanged: true,
+        },
     }
 }
 
@@ -78,21 +101,30 @@ fn changed_reply(alloc: Global, state: &State, change: &Change) -> Result<Reply,
     requires routed { IsRouted (command_of change.now) }
     ensures { IfOk result (λ r. r ≡ changed_reply state.now.held change.now) }
 {
-    answered(
-        alloc,
-        made_status(state, change),
-        &changed_answer(state, change),
-    )
+    let answer = changed_answer(state, change)?;
+    answered(alloc, made_status(state, change), &answer)
 }
 
-/// The status of a change: a version and a first draft are made, and a later draft is only replaced.
+/// The status of a change: a version, a first draft and a new sequence are made, and what was there is only changed.
 fn made_status(state: &State, change: &Change) -> StatusCode
     requires { IsRouted (command_of change.now) }
     ensures { result ≡ made_status state.now.held (command_of change.now) }
 {
     match change {
         Change::Draft { name, .. } => draft_status(state, *name),
-        _ => StatusCode::CREATED,
+        Change::Sequence { name, .. } => sequence_status(state, *name),
+        Change::Events { .. } | Change::Rebind { .. } => StatusCode::OK,
+        Change::Trace { .. } | Change::Freeze { .. } | Change::Sign { .. } => StatusCode::CREATED,
+    }
+}
+
+/// The status where a sequence is put.
+fn sequence_status(state: &State, name: Name) -> StatusCode
+    ensures { result ≡ sequence_status (sequence_of state.now.held.tables name) }
+{
+    match state.tables().sequence(name) {
+        Some(_) => StatusCode::OK,
+        None => StatusCode::CREATED,
     }
 }
 
@@ -106,28 +138,53 @@ fn draft_status(state: &State, name: Name) -> StatusCode
     }
 }
 
-/// What is answered to a command that was accepted as this change: the version is that of the state after it.
-fn changed_answer(state: &State, change: &Change) -> Answer
+/// What is answered to a command that was accepted as this change: its numbers are those of the state after it.
+fn changed_answer(state: &State, change: &Change) -> Result<Answer, NoMemory>
     requires accepted { Accepts state.now.held.tables change.now }
     requires routed { IsRouted (command_of change.now) }
-    ensures { result ≡ answer_of (command_of change.now) false (with_change state.now.held change.now) }
+    ensures { IfOk result (λ a. a ≡ answer_of (command_of change.now) false (with_change state.now.held change.now)) }
 {
     match change {
-        Change::Trace { name, trace } => Answer::Trace {
+        Change::Trace { name, trace } => Ok(Answer::Trace {
             samples: trace.len(),
             unchanged: false,
             version: next_version(state, *name),
-        },
-        Change::Draft { .. } => Answer::Draft { unchanged: false },
-        Change::Freeze { version, .. } => {
-            a_freeze_makes_the_version_named();
-            Answer::Freeze {
-                unchanged: false,
-                version: *version,
-            }
-        }
-        _ => unreachable!(),
+        }),
+        Change::Draft { .. } => Ok(Answer::Draft { unchanged: false }),
+        Change::Freeze { version, .. } => Ok(frozen_answer(*version)),
+        Change::Sequence { name, .. } => made_answer(state, change, *name),
+        Change::Events { name, .. } => made_answer(state, change, *name),
+        Change::Rebind { name, .. } => made_answer(state, change, *name),
+        Change::Sign { .. } => unreachable!(),
     }
+}
+
+/// What is answered to a freeze that makes this version.
+fn frozen_answer(version: u32) -> Answer
+    ensures value { result ≡ answer.Freeze false version }
+    ensures named { (tables : TablesState) (name : List ℕ) → Accepts tables (change.Freeze name version)
+        → method_versions_of (applied tables (change.Freeze name version)) name ≡ Some version }
+{
+    a_freeze_makes_the_version_named();
+    Answer::Freeze {
+        unchanged: false,
+        version,
+    }
+}
+
+/// What is answered to a change of a sequence: the numbers that it has then.
+fn made_answer(state: &State, change: &Change, name: Name) -> Result<Answer, NoMemory>
+    requires accepted { Accepts state.now.held.tables change.now }
+    requires own { sequence_changed change.now ≡ Some name }
+    ensures { IfOk result (λ a. a ≡
+        sequence_answer false (sequence_of (applied state.now.held.tables change.now) name)) }
+{
+    let numbers = state.tables().numbers_after(change, name)?;
+    Ok(Answer::Sequence {
+        basis: numbers.basis,
+        edition: numbers.edition,
+        unchanged: false,
+    })
 }
 
 /// The number of the version that a trace becomes under this name.

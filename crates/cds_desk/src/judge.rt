@@ -9,6 +9,7 @@ use crate::judged::Judged;
 use crate::methods::{freeze_draft, method_text, put_draft};
 use crate::refusals::{no_route, other_method};
 use crate::routes::Route;
+use crate::sequences::{put_events, put_sequence, rebind, signature_text};
 use crate::state::State;
 use crate::target::Target;
 use crate::traces::{put_trace, trace_text};
@@ -52,6 +53,7 @@ fn judge_method(
 }
 
 /// Judges what a request with the right method asks for.
+#[tactic(auto, unfolding(crate::specs::Step::judged_on))]
 fn judge_target(
     alloc: Global,
     state: &State,
@@ -72,5 +74,9 @@ fn judge_target(
         Route::PutDraft => put_draft(alloc, state, name, body),
         Route::PostVersion => freeze_draft(alloc, state, name, body),
         Route::GetMethod => Ok(Judged::Reply(method_text(alloc, state, name, number)?)),
+        Route::PutSequence => put_sequence(alloc, state, name, body),
+        Route::PutEvents => put_events(alloc, state, name, number, body),
+        Route::PostReprocess => rebind(alloc, state, name, body),
+        Route::GetSignature => Ok(Judged::Reply(signature_text(alloc, state, name, number)?)),
     }
 }

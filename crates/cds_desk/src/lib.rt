@@ -12,6 +12,7 @@ mod methods;
 mod peaks;
 mod refusals;
 mod routes;
+mod sequences;
 mod serving;
 mod session;
 mod state;

@@ -13,13 +13,13 @@ ghost use Rattle.cds_respond.specs.declared.reply.Content.TheVariants as content
 
 use crate::commands::decide;
 use crate::judged::Judged;
-use crate::refusals::{absent_version, body_reply, toml_reply};
+use crate::refusals::{absent_version, body_refused, toml_reply};
 use crate::state::State;
 use cds_base::{Bytes, Name, NoMemory};
 use cds_book::Command;
 use cds_respond::{Content, Reply};
 use cds_rules::{Method, MethodError};
-use cds_wire::{BodyError, read_freeze};
+use cds_wire::read_freeze;
 use http::StatusCode;
 use std::alloc::Global;
 
@@ -67,9 +67,7 @@ pub(crate) fn freeze_draft(
             let _name = name.as_bytes();
             decide(alloc, state, &Command::Freeze { name, version })
         }
-        Err(BodyError::NoMemory) => Err(NoMemory),
-        Err(BodyError::Json) => Ok(Judged::Reply(body_reply(alloc, None)?)),
-        Err(BodyError::Field(path)) => Ok(Judged::Reply(body_reply(alloc, Some(path))?)),
+        Err(error) => Ok(Judged::Reply(body_refused(alloc, error)?)),
     }
 }
 

@@ -1,16 +1,17 @@
 //! The replies to what is refused.
 
-ghost use Rattle.std.specs.Prelude.{◌≡◌, IfOk, Some, None};
+ghost use Rattle.std.specs.Prelude.{◌≡◌, ◌≢◌, IfOk, Some, None};
+ghost use Rattle.cds_wire.specs.declared.error.BodyError.TheVariants.{NoMemory as WantsMemory};
 ghost use Rattle.cds_desk.specs.Refusals.{no_route, other_method, csv_reply, toml_reply, body_reply, absent_reply};
 ghost use Rattle.cds_desk.specs.Refusals.{absent_version, in_path, in_body, missing_method, missing_sequence, told_as};
-ghost use Rattle.cds_desk.specs.Refusals.{value_told, plan_reply};
+ghost use Rattle.cds_desk.specs.Refusals.{value_told, plan_reply, refused_field, absent_signature};
 
 use cds_base::{Name, NoMemory, Text};
 use cds_book::{Command, PlanError};
 use cds_respond::{Reply, refusal, word};
 use cds_rules::MethodError;
 use cds_trace::TraceError;
-use cds_wire::Shown;
+use cds_wire::{BodyError, Shown};
 use http::{Method, StatusCode};
 use std::alloc::Global;
 
@@ -56,7 +57,7 @@ pub(crate) fn toml_reply(alloc: Global, error: &MethodError) -> Result<Reply, No
 }
 
 /// The reply to a body in JSON that states nothing: this field of it is refused, or it is no JSON.
-pub(crate) fn body_reply(alloc: Global, field: Option<Text>) -> Result<Reply, NoMemory>
+fn body_reply(alloc: Global, field: Option<Text>) -> Result<Reply, NoMemory>
     ensures { IfOk result (λ r. r ≡ body_reply field) }
 {
     match field {
@@ -68,6 +69,18 @@ pub(crate) fn body_reply(alloc: Global, field: Option<Text>) -> Result<Reply, No
             Shown::Word(path),
         ),
         None => refusal(alloc, StatusCode::BAD_REQUEST, "json", 0, word(alloc, "")?),
+    }
+}
+
+/// The reply to a body that is refused. It wants memory where the reader of the body did.
+pub(crate) fn body_refused(alloc: Global, error: BodyError) -> Result<Reply, NoMemory>
+    ensures value { IfOk result (λ r. r ≡ body_reply (refused_field error)) }
+    ensures refused { IfOk result (λ r. error ≢ WantsMemory) }
+{
+    match error {
+        BodyError::NoMemory => Err(NoMemory),
+        BodyError::Json => body_reply(alloc, None),
+        BodyError::Field(path) => body_reply(alloc, Some(path)),
     }
 }
 
@@ -180,6 +193,21 @@ pub(crate) fn absent_version(
         Some(_) => absent(alloc, 3, Shown::Number(u64::from(version))),
         None => absent(alloc, number, word_of(alloc, name.as_bytes())?),
     }
+}
+
+/// The reply where a signature isn't there: it shows the number where the sequence is there, and else its name.
+pub(crate) fn absent_signature(
+    alloc: Global,
+    name: Name,
+    number: u32,
+    has_sequence: bool,
+) -> Result<Reply, NoMemory>
+    ensures { IfOk result (λ r. r ≡ absent_signature name number has_sequence) }
+{
+    if has_sequence {
+        return absent(alloc, 6, Shown::Number(u64::from(number)));
+    }
+    absent(alloc, 4, word_of(alloc, name.as_bytes())?)
 }
 
 /// The reply where what a path names isn't there.

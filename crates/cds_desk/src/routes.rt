@@ -23,6 +23,14 @@ pub enum Route {
     PostVersion,
     /// The text of a method's version is read.
     GetMethod,
+    /// A sequence is put under a name.
+    PutSequence,
+    /// The manual events of a row of a sequence are put.
+    PutEvents,
+    /// A sequence is bound to another version of its method.
+    PostReprocess,
+    /// The text of a signature is read.
+    GetSignature,
 }
 
 impl Route {
@@ -36,6 +44,10 @@ impl Route {
             Route::PutDraft => "/methods/{name}/draft",
             Route::PostVersion => "/methods/{name}/versions",
             Route::GetMethod => "/methods/{name}/versions/{version}",
+            Route::PutSequence => "/sequences/{name}",
+            Route::PutEvents => "/sequences/{name}/rows/{number}/events",
+            Route::PostReprocess => "/sequences/{name}/reprocess",
+            Route::GetSignature => "/sequences/{name}/signatures/{number}",
         }
     }
 
@@ -44,9 +56,9 @@ impl Route {
         ensures { result ≡ method_of self }
     {
         match self {
-            Route::PutTrace | Route::PutDraft => Method::PUT,
-            Route::GetTrace | Route::GetMethod => Method::GET,
-            Route::PostVersion => Method::POST,
+            Route::PutTrace | Route::PutDraft | Route::PutSequence | Route::PutEvents => Method::PUT,
+            Route::GetTrace | Route::GetMethod | Route::GetSignature => Method::GET,
+            Route::PostVersion | Route::PostReprocess => Method::POST,
         }
     }
 
@@ -56,14 +68,18 @@ impl Route {
     {
         match self {
             Route::GetTrace => Some(3),
-            Route::GetMethod => Some(4),
-            Route::PutTrace | Route::PutDraft | Route::PostVersion => None,
+            Route::GetMethod | Route::PutEvents | Route::GetSignature => Some(4),
+            Route::PutTrace
+            | Route::PutDraft
+            | Route::PostVersion
+            | Route::PutSequence
+            | Route::PostReprocess => None,
         }
     }
 }
 
 /// All routes.
-fn all_routes() -> [Route; 5]
+fn all_routes() -> [Route; 9]
     ensures { result ≡ all_routes }
 {
     [
@@ -72,6 +88,10 @@ fn all_routes() -> [Route; 5]
         Route::PutDraft,
         Route::PostVersion,
         Route::GetMethod,
+        Route::PutSequence,
+        Route::PutEvents,
+        Route::PostReprocess,
+        Route::GetSignature,
     ]
 }
 

@@ -28,6 +28,7 @@ abbrev pub media_type : Content → List ℕ
 media_type content.Json = codes "application/json"
 media_type content.Csv = codes "text/csv"
 media_type content.Toml = codes "application/toml"
+media_type content.Plain = codes "text/plain"
 
 -- a field of a head
 unfoldable pub field_line : List ℕ → List ℕ → List ℕ

@@ -18,6 +18,8 @@ pub enum Content {
     Csv,
     /// TOML, as a method's text is.
     Toml,
+    /// Plain text, as a report is.
+    Plain,
 }
 
 /// What is answered to a request.

@@ -115,6 +115,7 @@ fn media_type(content: Content) -> &'static [u8]
         Content::Json => b"application/json",
         Content::Csv => b"text/csv",
         Content::Toml => b"application/toml",
+        Content::Plain => b"text/plain",
     }
 }
 

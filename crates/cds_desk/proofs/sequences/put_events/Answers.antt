@@ -1,0 +1,9 @@
+use Rattle.cds_desk.proofs.BodyLaws.{events_stated}
+use Rattle.cds_desk.proofs.sequences.put_events.Goals as goal
+
+pub decide-requires-clause-command : goal.decide-requires-clause-command
+decide-requires-clause-command c =
+    (events_stated c.args.name c.args.row c.args.body.now c.in-Ok.command c.in-Ok.ensures.value).ranged c.in-Ok.ensures.ranges
+
+pub decide-requires-clause-routed : goal.decide-requires-clause-routed
+decide-requires-clause-routed c = (events_stated c.args.name c.args.row c.args.body.now c.in-Ok.command c.in-Ok.ensures.value).routed
