@@ -1,5 +1,6 @@
 -- Lists as the loops over rows, points and lines take them.
-use Rattle.std.proofs.Common.{◌≡◌, ◌∙◌, ℕ, zero, suc, ◌+◌, ◌<◌, ◌≤◌, Bool, true, false, cond, List, [], ◌∷◌, ◌++◌, length, get_or}
+use Rattle.std.proofs.Common.{◌≡◌, ◌∙◌, ℕ, zero, suc, ◌+◌, ◌<◌, ◌≤◌, Bool}
+use Rattle.std.proofs.Common.{true, false, cond, List, [], ◌∷◌, ◌++◌, length, get_or}
 use Rattle.std.proofs.Common.{take, map, Option, Some, None, option_map, find, refl, sym, ap, subst, arith}
 use Rattle.std.specs.Prelude.{All, insert, option_to_list}
 use Rattle.std.specs.List.{filter_map, cons_option}
@@ -134,8 +135,8 @@ cons-one : {Y : Type 0} (o : Option Y) → cons_option o [] ≡ option_to_list o
 cons-one None = refl
 cons-one (Some y) = refl
 
-pub given-one : {X Y : Type 0} (gives : X → Option Y) (xs : List X) (i : ℕ) (x : X) → i < length xs → x ≡ get_or xs i x →
-    filter_map gives (take (i + 1) xs) ≡ filter_map gives (take i xs) ++ option_to_list (gives x)
+pub given-one : {X Y : Type 0} (gives : X → Option Y) (xs : List X) (i : ℕ) (x : X) → i < length xs →
+    x ≡ get_or xs i x → filter_map gives (take (i + 1) xs) ≡ filter_map gives (take i xs) ++ option_to_list (gives x)
 given-one gives xs i x within is =
     ap (filter_map gives) (take_more xs i x within ∙ ap (λ y. take i xs ++ y ∷ []) (sym is))
     ∙ filter_map-append gives (take i xs) (x ∷ [])

@@ -19,7 +19,8 @@ pub entry-found : (held : List (Rc Entry Global)) (name : List ℕ) →
     (find (λ (e : Rc Entry Global). bytes_eq e.value.name name) held)
     ≡ named (λ (kept : KeptSequence). kept.name) (sequences_shown held) name
 entry-found held name =
-    sym (find-seen (λ (kept : KeptSequence). bytes_eq kept.name name) (λ (e : Rc Entry Global). entry_shown e.value) held)
+    sym (find-seen (λ (kept : KeptSequence). bytes_eq kept.name name) (λ (e : Rc Entry Global). entry_shown e.value)
+    held)
 
 -- a part of what is found
 part-found : {X Y Z : Type 0} (part : Y → Z) (seen : X → Y) (found : Option X) →

@@ -13,8 +13,8 @@ use Rattle.cds_graph.specs.Points.{points_in, points_from}
 use Rattle.cds_graph.proofs.FoundLaws.{given-one, take-front}
 
 -- the points of one listed sequence more
-pub points-more : (name : List ℕ) (standards : List HeldListed) (i : ℕ) (listed : HeldListed) (before after : List Point) →
-    i < length standards → listed ≡ get_or standards i listed →
+pub points-more : (name : List ℕ) (standards : List HeldListed) (i : ℕ) (listed : HeldListed)
+    (before after : List Point) → i < length standards → listed ≡ get_or standards i listed →
     after ≡ take MOST_POINTS (before ++ points_in name (listed_shown listed)) →
     before ≡ points_from (map listed_shown (take i standards)) name →
     after ≡ points_from (map listed_shown (take (i + 1) standards)) name

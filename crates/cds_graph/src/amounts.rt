@@ -15,8 +15,8 @@ use cds_sign::RowKind;
 use std::alloc::Global;
 use std::marker::Model;
 
-/// The amounts of the components of a method in a row, in the order of the components, each of which may be missing. Seen
-/// as a list.
+/// The amounts of the components of a method in a row, in the order of the components, each of which may be missing.
+/// Seen as a list.
 #[derive(Debug, Drop)]
 pub(crate) struct RowAmounts {
     pub items: Vec<Result<Frac, Missing>>,
@@ -32,8 +32,8 @@ impl Model for RowAmounts {
     ghost view = { λ a. a.items.items };
 }
 
-/// The amounts of the components in each row by these calibrations, which sample rows alone have. The only refusal is want
-/// of memory.
+/// The amounts of the components in each row by these calibrations, which sample rows alone have. The only refusal is
+/// want of memory.
 pub(crate) fn amounts_of(
     alloc: Global,
     rows: &[FoundRow],

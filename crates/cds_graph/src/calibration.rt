@@ -1,5 +1,6 @@
 //! The points of components, and the lines through them.
-ghost use Rattle.std.specs.Prelude.{◌≡◌, ◌++◌, ◌∷◌, [], ◌<◌, All, IfOk, IfSome, length, map, option_copied, option_to_list, take};
+ghost use Rattle.std.specs.Prelude.{◌≡◌, ◌++◌, ◌∷◌, [], ◌<◌, All};
+ghost use Rattle.std.specs.Prelude.{IfOk, IfSome, length, map, option_copied, option_to_list, take};
 ghost use Rattle.std.specs.List.{position};
 ghost use Rattle.std.specs.Str.{bytes_eq};
 ghost use Rattle.cds_base.specs.Named.{named};
@@ -11,7 +12,8 @@ ghost use Rattle.cds_rules.specs.Values.{number_of};
 ghost use Rattle.cds_sign.specs.Ranges.{IsWithin};
 ghost use Rattle.cds_book.specs.Tables.{numbered};
 ghost use Rattle.cds_graph.specs.Held.{standard_shown, listed_shown, found_shown, HoldAmounts};
-ghost use Rattle.cds_graph.specs.Points.{amount_stated, point_of, points_in, points_from, calibration_by, calibrations_of};
+ghost use Rattle.cds_graph.specs.Points.{amount_stated, point_of, points_in};
+ghost use Rattle.cds_graph.specs.Points.{points_from, calibration_by, calibrations_of};
 ghost use Rattle.cds_graph.specs.Ranges.{AreAmounts};
 
 use crate::found::{FoundListed, FoundSequence, FoundStandard};

@@ -13,8 +13,8 @@ use std::marker::Model;
 pub struct CheckLine {
     /// The number of the row that the line is of, counted from 1; None where it is of all.
     pub row: Option<u32>,
-    /// The value, or why it is missing. That of a deviation is shown in hundredths of a percent, that of a determination in
-    /// ten-thousandths, both rounded down: no limit is to be compared with them.
+    /// The value, or why it is missing. That of a deviation is shown in hundredths of a percent, that of a
+    /// determination in ten-thousandths, both rounded down: no limit is to be compared with them.
     pub value: Result<Frac, Missing>,
     /// What the check says of the value.
     pub verdict: Verdict,

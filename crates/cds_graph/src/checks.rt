@@ -38,8 +38,8 @@ pub(crate) fn checks_of(
     Ok(lines)
 }
 
-/// The verdict of all checks: Fail where one line fails, else that of the first undecided line, else Pass. The only refusal
-/// is want of memory.
+/// The verdict of all checks: Fail where one line fails, else that of the first undecided line, else Pass. The only
+/// refusal is want of memory.
 pub(crate) fn verdict_of(alloc: Global, checks: &[CheckLines]) -> Result<Verdict, NoMemory>
     ensures { IfOk result (λ verdict. verdict ≡ verdict_of_checks checks.now) }
 {

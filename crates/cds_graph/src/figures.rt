@@ -12,8 +12,8 @@ use cds_base::{Missing, Peak, Ratio};
 use cds_figures::{peak_valley, plates, resolution, retention, signal_noise, tailing};
 use cds_frac::Frac;
 
-/// The number of theoretical plates of a peak, or that its width is cut. After USP General Chapter 621, half-height form
-/// of this project.
+/// The number of theoretical plates of a peak, or that its width is cut. After USP General Chapter 621, half-height
+/// form of this project.
 pub fn plates_in(peak: &Peak) -> Result<Frac, Missing>
     requires { IsSound peak.now }
     ensures { result ≡ plates_in (peak_seen peak.now) }
@@ -22,8 +22,8 @@ pub fn plates_in(peak: &Peak) -> Result<Frac, Missing>
     Ok(plates(peak.time_us, width))
 }
 
-/// The tailing of a peak in a trace of this period, in microseconds, or that its width is cut. It is taken from the apex
-/// sample, whatever the time of the peak is. After USP General Chapter 621, in the form of this project.
+/// The tailing of a peak in a trace of this period, in microseconds, or that its width is cut. It is taken from the
+/// apex sample, whatever the time of the peak is. After USP General Chapter 621, in the form of this project.
 pub fn tailing_in(period: u64, peak: &Peak) -> Result<Frac, Missing>
     requires sound { IsSound peak.now }
     requires crosses { CrossesBefore period peak.now }

@@ -50,8 +50,8 @@ pub(crate) struct FoundListed {
     pub rows: Vec<FoundStandard>,
 }
 
-/// A sequence: its method, its rows and the sequences that it lists, all in their order, and the noise of its first blank
-/// row.
+/// A sequence: its method, its rows and the sequences that it lists, all in their order, and the noise of its first
+/// blank row.
 #[derive(Debug, Drop)]
 pub(crate) struct FoundSequence {
     pub method: Rc<MethodNode>,

@@ -78,8 +78,8 @@ impl Graph {
         entry.node.line(component)
     }
 
-    /// The determination of a component's points in ten-thousandths, rounded down, or why there is none. None exactly where
-    /// there is no such sequence or component.
+    /// The determination of a component's points in ten-thousandths, rounded down, or why there is none. None exactly
+    /// where there is no such sequence or component.
     pub fn determination(&self, sequence: Name, component: u32) -> Option<Result<u32, Missing>>
         ensures { result ≡ looked_up self.now sequence (λ results. determination_at results component) }
     {
@@ -96,7 +96,8 @@ impl Graph {
         entry.node.amount(n, component)
     }
 
-    /// The noise of the first blank row of a sequence, or why it has none. None exactly where there is no such sequence.
+    /// The noise of the first blank row of a sequence, or why it has none. None exactly where there is no such
+    /// sequence.
     pub fn noise(&self, sequence: Name) -> Option<Result<u32, Missing>>
         ensures { result ≡ looked_up self.now sequence (λ results. Some results.noise) }
     {

@@ -51,8 +51,8 @@ impl SequenceNode {
         }
     }
 
-    /// The determination of a component's points in ten-thousandths, or why there is none. None exactly where there is no
-    /// such component.
+    /// The determination of a component's points in ten-thousandths, or why there is none. None exactly where there is
+    /// no such component.
     pub fn determination(&self, component: u32) -> Option<Result<u32, Missing>>
         ensures { result ≡ determination_at (results_shown self.now) component }
     {
@@ -62,8 +62,8 @@ impl SequenceNode {
         }
     }
 
-    /// The amount of a component in a row, or why it is missing. None exactly where there is no such row or component, or
-    /// the row is no sample.
+    /// The amount of a component in a row, or why it is missing. None exactly where there is no such row or component,
+    /// or the row is no sample.
     pub fn amount(&self, n: u32, component: u32) -> Option<Result<Frac, Missing>>
         ensures { result ≡ amount_at (results_shown self.now) n component }
     {

@@ -16,7 +16,8 @@ use cds_sign::RowKind;
 use cds_suit::Verdict;
 use std::alloc::Global;
 
-/// The lines of a check of one value in each replicate row, in the order of the rows. The only refusal is want of memory.
+/// The lines of a check of one value in each replicate row, in the order of the rows. The only refusal is want of
+/// memory.
 pub(crate) fn row_lines(
     alloc: Global,
     check: &Check,

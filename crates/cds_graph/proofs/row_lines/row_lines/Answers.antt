@@ -25,7 +25,8 @@ pub returns : goal.returns
 returns c =
     let line = row_line (found_shown c.args.found.now) c.args.check.now in
     let rows = c.as_slice-rows.result.now in
-    let whole : c.loop-place.place ≡ length rows = omega (arith, c.loop-place-test.false, c.loop-place.auto.place-end) in
+    let whole : c.loop-place.place ≡ length rows =
+    omega (arith, c.loop-place-test.false, c.loop-place.auto.place-end) in
     let all : c.loop-place.lines ≡ filter_map line (with_numbers (map row_shown c.args.found.now.rows.items)) =
     c.loop-place.invariant ∙ ap (filter_map line) (numbered-whole row_shown rows c.loop-place.place whole)
     ∙ ap (λ (rs : List HeldRow). filter_map line (with_numbers (map row_shown rs))) c.as_slice-rows.ensures.value in

@@ -11,7 +11,8 @@ pub returns-in-Some-clause-value : goal.returns-in-Some-clause-value
 returns-in-Some-clause-value c =
     let test = λ (p : Peak). is_number c.args.component p.component in
     peak-found c.args.self.now.part c.args.component (Some c.in-Some.peak.now) c.args.self.now.stands.counted
-    (omega (arith, c.if-too_many-gt0.false, c.too_many.ensures)) (c.in-Some.ensures ∙ ap (find test) c.peaks.ensures.value)
+    (omega (arith, c.if-too_many-gt0.false, c.too_many.ensures))
+    (c.in-Some.ensures ∙ ap (find test) c.peaks.ensures.value)
 
 pub returns-in-Some-clause-sound : goal.returns-in-Some-clause-sound
 returns-in-Some-clause-sound c =
@@ -28,4 +29,5 @@ pub returns-in-None-clause-value : goal.returns-in-None-clause-value
 returns-in-None-clause-value c =
     let test = λ (p : Peak). is_number c.args.component p.component in
     peak-found c.args.self.now.part c.args.component None c.args.self.now.stands.counted
-    (omega (arith, c.if-too_many-gt0.false, c.too_many.ensures)) (c.in-None.ensures ∙ ap (find test) c.peaks.ensures.value)
+    (omega (arith, c.if-too_many-gt0.false, c.too_many.ensures))
+    (c.in-None.ensures ∙ ap (find test) c.peaks.ensures.value)
