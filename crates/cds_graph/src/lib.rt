@@ -48,3 +48,6 @@ pub use laws::{
 };
 pub use limits::{NOISE_STEPS, ROW_STEPS};
 pub use method::{MethodKey, MethodNode};
+
+#[cfg(test)]
+mod worked_rows;
