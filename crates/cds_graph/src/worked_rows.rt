@@ -343,7 +343,7 @@ fn check_text(alloc: Global, node: &SequenceNode) -> Result<String, Fail> {
     Ok(text)
 }
 
-// What a case comes to, as its last two fields state it.
+// What a case comes to, as its last two fields state it, with the border before each.
 fn case_text(alloc: Global, line: &str) -> Result<String, Fail> {
     let node = results_of(alloc, line)?;
     let count = node.found.rows.len();
@@ -352,7 +352,7 @@ fn case_text(alloc: Global, line: &str) -> Result<String, Fail> {
     }
     let amounts = amounts_text(alloc, &node, count as u32)?;
     let lines = check_text(alloc, &node)?;
-    Ok(format!(in alloc; "{amounts}|{lines}")?)
+    Ok(format!(in alloc; "|{amounts}|{lines}")?)
 }
 
 #[test]
