@@ -57,7 +57,7 @@ Again judging state = IsTrue (is_some (change_of (judging state))) → IsUnchang
 -- a change that is planned is what was asked for, and a change that was carried out, asked for again, changes nothing
 module _ (asked_for : (tables : TablesState) (asked : Command) (c : Change) → planned tables asked ≡ Ok (plan.Change c) → command_of c ≡ asked)
     (once_more : (tables : TablesState) (c : Change) → planned tables (command_of c) ≡ Ok (plan.Change c)
-        → planned (applied tables c) (command_of c) ≡ Ok plan.Unchanged) where
+    → planned (applied tables c) (command_of c) ≡ Ok plan.Unchanged) where
   -- a command that is unchanged is answered so
   unchanged : (state : State) (asked : Command) → planned state.tables asked ≡ Ok plan.Unchanged → IsUnchanged (commanded state asked)
   unchanged state asked is = rw is (refl, answer_of asked true state, refl, says_so asked state)

@@ -56,7 +56,8 @@ impl Route {
         ensures { result ≡ method_of self }
     {
         match self {
-            Route::PutTrace | Route::PutDraft | Route::PutSequence | Route::PutEvents => Method::PUT,
+            Route::PutTrace | Route::PutDraft | Route::PutSequence | Route::PutEvents =>
+                Method::PUT,
             Route::GetTrace | Route::GetMethod | Route::GetSignature => Method::GET,
             Route::PostVersion | Route::PostReprocess => Method::POST,
         }

@@ -43,18 +43,18 @@ years_before-is y m d civil =
     let next = days_from_civil_year y m d (y + 1) 1 1 civil (omega arith) in
     greatest-is _ 8029 (y - 1970) (omega (arith, civil.0.1)) (nat_le-true _ _ (omega arith))
     (λ k above most.
-      let up = days_of_years-le (y + 1 - 1970) (k - (y + 1 - 1970)) in
-      let same : (y + 1 - 1970) + (k - (y + 1 - 1970)) ≡ k = omega (arith, civil.0.0) in
-      nat_le-false _ _ (omega (arith, next, rw same at up)))
+    let up = days_of_years-le (y + 1 - 1970) (k - (y + 1 - 1970)) in
+    let same : (y + 1 - 1970) + (k - (y + 1 - 1970)) ≡ k = omega (arith, civil.0.0) in
+    nat_le-false _ _ (omega (arith, next, rw same at up)))
 
 -- the whole months before a day of its year are those up to its own
 months_before-is : (y m d : ℕ) → IsCivilDate y m d → months_before y (days_of_months y (m - 1) + (d - 1)) ≡ m - 1
 months_before-is y m d civil =
     greatest-is _ 11 (m - 1) (omega (arith, civil.1.1)) (nat_le-true _ _ (omega arith))
     (λ k above most.
-      let next = days_from_civil_month y m d (k + 1) 1 civil (omega (arith, civil.1.0)) in
-      let same : k + 1 - 1 ≡ k = omega arith in
-      nat_le-false _ _ (omega (arith, rw same at next)))
+    let next = days_from_civil_month y m d (k + 1) 1 civil (omega (arith, civil.1.0)) in
+    let same : k + 1 - 1 ≡ k = omega arith in
+    nat_le-false _ _ (omega (arith, rw same at next)))
 
 -- the day and the second of the day are those of the seconds
 day_of : (days h m s : ℕ) → h < 24 → m < 60 → s < 60 → (days * 86400 + h * 3600 + m * 60 + s) / 86400 ≡ days
@@ -74,11 +74,11 @@ parts_of_day-is d =
     let years = years_before-is p.year p.mon p.day d.civil in
     let year : 1970 + (p.year - 1970) ≡ p.year = omega (arith, d.civil.0.0) in
     let rest : days_from_civil p.year p.mon p.day - days_of_years (p.year - 1970)
-        ≡ days_of_months p.year (p.mon - 1) + (p.day - 1) = omega arith in
+    ≡ days_of_months p.year (p.mon - 1) + (p.day - 1) = omega arith in
     let months = months_before-is p.year p.mon p.day d.civil in
     let mon : p.mon - 1 + 1 ≡ p.mon = omega (arith, d.civil.1.0) in
     let day : days_of_months p.year (p.mon - 1) + (p.day - 1) - days_of_months p.year (p.mon - 1) + 1 ≡ p.day =
-        omega (arith, d.civil.2.0) in
+    omega (arith, d.civil.2.0) in
     let hour : second / 3600 ≡ p.hour = omega (arith, d.time) in
     let min : second % 3600 / 60 ≡ p.min = omega (arith, d.time) in
     let sec : second % 60 ≡ p.sec = omega (arith, d.time) in
