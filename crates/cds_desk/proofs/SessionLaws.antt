@@ -9,8 +9,9 @@ use Rattle.cds_base.specs.Failing.{one_more}
 use Rattle.cds_desk.specs.Opening.{opened}
 use Rattle.cds_desk.specs.declared.desk.OpenError.TheVariants.{NoMemory, Damaged}
 use Rattle.cds_desk.specs.Serving.{Reading, world, EndsAs}
-use Rattle.cds_desk.specs.Session.{Opened, ServedUntil, session_told, damage_of, status_of}
+use Rattle.cds_desk.specs.Session.{Opened, ServedUntil, session_told, damage_of, damage_in, status_of}
 use Rattle.cds_desk.specs.Statuses.{ends_unserved}
+use Rattle.cds_desk.specs.declared.status.Status.{Status}
 use Rattle.cds_desk.specs.declared.status.Status.TheVariants as status
 use Rattle.cds_desk.specs.declared.serving.Ended.TheVariants as ending
 use Rattle.cds_desk.specs.declared.serving.Ended.{Ended}
@@ -96,6 +97,57 @@ not_for_damage ending.Refused = λ e. cc
 not_for_damage ending.SourceFailed = λ e. cc
 not_for_damage ending.SinkFailed = λ e. cc
 not_for_damage ending.NoMemory = λ e. cc
+
+-- a session that was opened was stated by its words
+pub not_for_words : (ended : Ended) → status_of ended ≢ status.NoCommand
+not_for_words ending.Done = λ e. cc
+not_for_words ending.Refused = λ e. cc
+not_for_words ending.SourceFailed = λ e. cc
+not_for_words ending.SinkFailed = λ e. cc
+not_for_words ending.NoMemory = λ e. cc
+
+-- the end of the serving that a status tells
+abbrev ended_of : Status → Ended
+ended_of status.Done = ending.Done
+ended_of status.Refused = ending.Refused
+ended_of status.NoCommand = ending.NoMemory
+ended_of status.SourceFailed = ending.SourceFailed
+ended_of status.SinkFailed = ending.SinkFailed
+ended_of status.KeeperFailed = ending.NoMemory
+ended_of status.NoMemory = ending.NoMemory
+ended_of status.Damaged = ending.NoMemory
+
+told_end : (ended : Ended) → ended_of (status_of ended) ≡ ended
+told_end ending.Done = refl
+told_end ending.Refused = refl
+told_end ending.SourceFailed = refl
+told_end ending.SinkFailed = refl
+told_end ending.NoMemory = refl
+
+-- the status tells that the source failed, that the sink did, or that memory was wanting
+pub source_failed : (ended : Ended) → status_of ended ≡ status.SourceFailed → ended ≡ ending.SourceFailed
+source_failed ended is = sym (told_end ended) ∙ ap ended_of is
+
+pub sink_failed : (ended : Ended) → status_of ended ≡ status.SinkFailed → ended ≡ ending.SinkFailed
+sink_failed ended is = sym (told_end ended) ∙ ap ended_of is
+
+pub memory_wanting : (ended : Ended) → status_of ended ≡ status.NoMemory → ended ≡ ending.NoMemory
+memory_wanting ended is = sym (told_end ended) ∙ ap ended_of is
+
+-- a session that is done is none whose sink failed
+pub done_is_whole : (ended : Ended) → status_of ended ≡ status.Done → ended ≢ ending.SinkFailed
+done_is_whole ended is = λ failed. done_or_failed (sym is ∙ ap status_of failed)
+  where
+    done_or_failed : status.Done ≡ status.SinkFailed → ⊥
+    done_or_failed e = cc
+
+-- a store that was opened isn't damaged
+pub opened_is_whole : (found : Option Found) (content : Option (List (List ℕ))) (list : List (List ℕ)) (state : State) (how : Status)
+    → IfSome found (λ f. (f ≡ records list) × (content ≡ Some list)) → Gives NoMemory (λ (t : State). t) (opened list) (Ok state)
+    → IfSome found (λ f. damage_of f ≢ None → ends_unserved how ≡ true)
+opened_is_whole None content list state how h opens = tt
+opened_is_whole (Some f) content list state how h opens =
+    λ damaged_. absurd (damaged_ (ap damage_of h.0 ∙ ap damage_in (opens_ok list state opens)))
 
 -- a load leaves what a load finds
 pub finds_again : (found now : Option Found) (content : Option (List (List ℕ))) (list : List (List ℕ)) → IfSome found (λ f. (f ≡ records list) × (content ≡ Some list))

@@ -1,12 +1,13 @@
 -- What the turn of a request comes to.
-use Rattle.std.proofs.Common.{◌≡◌, ℕ, ◌+◌, ◌^◌, ◌<◌, ◌≤◌, length, List, Option, Some, None, Result, Ok, Err, refl, sym, ap, ◌∙◌, subst, inl, arith}
-use Rattle.std.specs.Prelude.{OnOk, OnErr, IfSome, bytes_eq, codes, min, option_map}
+use Rattle.std.proofs.Common.{◌≡◌, ℕ, ◌+◌, ◌^◌, ◌<◌, ◌≤◌, length, List, Option, Some, None, Result, Ok, Err, refl, sym, ap, ◌∙◌, subst, inl, [], ◌∷◌, ◌++◌, arith}
+use Rattle.std.specs.Prelude.{OnOk, OnErr, IfSome, IsTrue, bytes_eq, codes, is_some, min, option_map}
+use Rattle.cds_base.specs.Failing.{one_more}
 use Rattle.cds_base.specs.Faults.{Rose, most_faults}
 use Rattle.cds_base.specs.Told.{then_more}
-use Rattle.cds_desk.specs.State.{State}
+use Rattle.cds_desk.specs.State.{State, with_change, after_change}
 use Rattle.cds_sign.specs.declared.command.Change.{Change}
 use Rattle.cds_book.specs.Plan.{command_of, IsCommand}
-use Rattle.cds_codec.specs.Record.{carried_text}
+use Rattle.cds_codec.specs.Record.{carried_text, record_of}
 use Rattle.cds_keep.specs.declared.keeper.TheConstants.{RECORD_LIMIT}
 use Rattle.cds_sign.specs.Ranges.{IsChange}
 use Rattle.cds_sign.specs.declared.command.Change.TheVariants as changes
@@ -20,11 +21,13 @@ use Rattle.cds_desk.specs.Serving.{Lasting, Changed, FindsOn, ItemServed, ItemBr
 use Rattle.cds_desk.specs.Judged.{reply_of, change_of}
 use Rattle.cds_desk.specs.Commands.{IsPlanned, IsRouted}
 use Rattle.cds_desk.proofs.CommandLaws.{method_length}
-use Rattle.cds_desk.specs.Step.{judged}
-use Rattle.cds_desk.specs.Turn.{Asks, Comes, judged_of, calls_after, answered_text}
+use Rattle.cds_desk.specs.Step.{judged, records_of}
+use Rattle.cds_desk.specs.declared.judged.Judged.{Judged}
+use Rattle.cds_desk.specs.Turn.{Asks, Comes, KeepsChange, judged_of, calls_after, answered_text}
 use Rattle.cds_desk.specs.declared.turn.Answered.{Answered}
 use Rattle.cds_desk.specs.declared.turn.Answered.TheVariants.{Response, NoMemory, NotKept, KeeperFailed}
 use Rattle.cds_desk.specs.declared.turn.Asked.{Asked}
+use Rattle.cds_desk.specs.declared.turn.Kept.{Kept}
 use Rattle.cds_desk.proofs.ServingLaws.{kept-nil}
 
 -- what comes of a request is the outcome of its turn, with the text that is written
@@ -81,6 +84,7 @@ came before now m KeeperFailed c = record {
 
 -- what was asked is judged as the message is
 asked_judged : (state : State) (asked : Asked) (m : Message) → Asks asked m → judged_of state asked ≡ judged state m 0
+unfolding judged_of
 asked_judged state asked m asks = rw (asks.method, asks.target, asks.body) refl
 
 module _ {A E : Type 0} (r : Result A E) (w v : Option (List ℕ)) (before now : Lasting) (asked : Asked) (m : Message) (a : Answered) (asks : Asks asked m)
@@ -117,6 +121,44 @@ module _ {A E : Type 0} (r : Result A E) (w v : Option (List ℕ)) (before now :
         changed = it_came.changed;
         written = rw (asks.close, asks.without_body, it_came.text_is) at h;
       }
+
+-- ---- what is kept of a request
+
+-- what is kept is the change that was judged
+pub kept_change : (change : Option Change) (kept : Option Kept) (k : Kept) → KeepsChange change kept → kept ≡ Some k → change ≡ Some k.change
+kept_change None None k keeps is = absurd (cc)
+kept_change None (Some other) k keeps is = absurd keeps
+kept_change (Some change) None k keeps is = absurd keeps
+kept_change (Some change) (Some other) k keeps is =
+    let same : other ≡ k = cc in
+    ap Some (sym keeps.0 ∙ ap (λ (x : Kept). x.change) same)
+
+-- and its record
+pub kept_record : (change : Option Change) (kept : Option Kept) (k : Kept) → KeepsChange change kept → kept ≡ Some k → k.record ≡ record_of k.change
+kept_record None None k keeps is = absurd (cc)
+kept_record None (Some other) k keeps is = absurd keeps
+kept_record (Some change) None k keeps is = absurd keeps
+kept_record (Some change) (Some other) k keeps is =
+    let same : k ≡ other = cc in
+    ap (λ (x : Kept). x.record) same ∙ keeps.1 ∙ ap record_of (sym keeps.0 ∙ ap (λ (x : Kept). x.change) (sym same))
+
+-- the change was put once, and carried out
+pub comes_put : (before now : Lasting) (j : Judged) (text response : List ℕ) (change : Change) (bytes : List ℕ)
+    → change_of j ≡ Some change → bytes ≡ record_of change → response ≡ text → now.state ≡ with_change before.state change
+    → now.keeper.content ≡ option_map (λ list. list ++ bytes ∷ []) before.keeper.content
+    → now.keeper.faults ≡ before.keeper.faults → now.keeper.calls ≡ one_more before.keeper.calls
+    → Comes before now j text (Response response)
+comes_put before now j text response change bytes is recorded same state content faults calls = (
+  same,
+  state ∙ ap (after_change before.state) (sym is),
+  content ∙ ap (λ (r : List (List ℕ)). option_map (λ list. list ++ r) before.keeper.content) (ap (λ (r : List ℕ). r ∷ []) recorded ∙ ap records_of (sym is)),
+  faults,
+  calls ∙ ap (λ (c : Option Change). calls_after c before.keeper.calls) (sym is),
+)
+
+-- a request that was to be kept changes something
+pub is_kept : (change : Option Change) (k : Change) → change ≡ Some k → IsTrue (is_some change)
+is_kept change k is = subst (λ (c : Option Change). IsTrue (is_some c)) (sym is) refl
 
 -- a change that is planned has a record
 pub planned_has_record : (state : State) (change : Change) → IsPlanned state change → IsChange change

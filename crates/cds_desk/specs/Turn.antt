@@ -19,7 +19,7 @@ use Rattle.cds_desk.specs.declared.turn.Asked.{Asked}
 use Rattle.cds_desk.specs.declared.turn.Kept.{Kept}
 
 -- what is judged of a request
-abbrev pub judged_of : State → Asked → Judged
+unfoldable pub judged_of : State → Asked → Judged
 judged_of state asked = judged_route state (target_of asked.target.now) asked.method.now asked.body.now
 
 -- the change that is to be kept is the one that was judged, with its record

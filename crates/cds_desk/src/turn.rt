@@ -67,6 +67,7 @@ pub(crate) enum Answered {
 
 /// Prepares the answer to a request. Nothing is changed, but room is taken for the change. No request asks the clock
 /// yet.
+#[tactic(auto, unfolding(crate::specs::Turn::judged_of))]
 fn prepare<C: Clock>(
     alloc: Global,
     router: &Router<Route>,

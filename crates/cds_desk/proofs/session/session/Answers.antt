@@ -1,6 +1,8 @@
 use Rattle.std.proofs.Common.{◌≡◌, ◌∙◌, Err, sym, ap, rules}
 use Rattle.cds_desk.specs.Serving.{reading}
+use Rattle.cds_desk.specs.Session.{status_of}
 use Rattle.cds_desk.proofs.SessionLaws.{served_until, damage_found, finds_loaded, finds_again, unserved_for_memory, not_for_keeper, not_for_damage, no_error}
+use Rattle.cds_desk.proofs.SessionLaws.{not_for_words, source_failed, sink_failed, memory_wanting, done_is_whole, opened_is_whole}
 use Rattle.cds_desk.proofs.TurnLaws.{at_most}
 use Rattle.cds_desk.proofs.session.session.Goals as goal
 
@@ -29,7 +31,7 @@ returns-clause-ran g c =
     let e = c.serve_connection-ended.result in
     let count : (g.K.Keeper.told c.load.new.self).faults ≡ (g.K.Keeper.told c.args.keeper.now).faults = c.in-Ok.ensures.count_stays (no_error _ _) in
     record {
-      is_command = search rules;
+      is_command = λ is. not_for_words e (sym c.status_of.ensures ∙ is);
       served = λ _. record {
         served = (
           c.serve_connection-ended.result,
@@ -61,7 +63,22 @@ returns-clause-ran g c =
             keeper_failed = λ f. absurd (not_for_keeper e (sym c.status_of.ensures ∙ f));
             damaged = λ f. absurd (not_for_damage e (sym c.status_of.ensures ∙ f));
           };
-      damaged_only = search rules;
-      failed_write = search rules;
+      damaged_only = opened_is_whole (g.K.Keeper.finds c.args.keeper.now c.args.store.now) (g.K.Keeper.told c.load.new.self).content
+          c.in-Ok.records c.in-Ok-open.desk c.status_of.result c.in-Ok.ensures.found c.in-Ok-open.ensures.opens;
+      failed_write = λ _ other. c.serve_connection-ended.ensures.failed_write (λ is. other (c.status_of.ensures ∙ ap status_of is));
       keeper_counts = search rules;
+    }
+
+pub returns-clause-ends : goal.returns-clause-ends
+returns-clause-ends g c =
+    let e = c.serve_connection-ended.result in
+    let how = c.status_of.ensures in
+    record {
+      failed_read = λ other. c.serve_connection-ended.ensures.failed_read (λ is. other (how ∙ ap status_of is));
+      source_failed = λ is. c.serve_connection-ended.ensures.source_failed (source_failed e (sym how ∙ is));
+      sink_failed = λ is. c.serve_connection-ended.ensures.sink_failed (sink_failed e (sym how ∙ is));
+      done_failed_no_write = λ is. c.serve_connection-ended.ensures.failed_write (done_is_whole e (sym how ∙ is));
+      no_memory_writes_nothing = λ is. (c.serve_connection-ended.ensures.no_memory (memory_wanting e (sym how ∙ is))).2;
+      source_counts = c.serve_connection-ended.ensures.source_counts;
+      sink_counts = c.serve_connection-ended.ensures.sink_counts;
     }
