@@ -10,6 +10,7 @@ pub mod MemDoor
 pub mod Tiles
 pub mod EventTime
 pub mod EventRange
+pub mod EventParts
 pub mod Search
 pub mod RatioOrder
 pub mod Answers

@@ -2,11 +2,11 @@
 use Rattle.std.specs.Prelude.{◌≡◌, ℕ, ◌-◌, ◌≤◌, ◌&&◌, ◌||◌, ◌==◌, Bool, IsTrue, List, ◌++◌, length, take, drop, replicate, Option, Some, None, nat_le, if◌then◌else◌}
 use Rattle.std.specs.Char.{is_ascii_alphanumeric}
 use Rattle.std.specs.List.{list_all}
-use Rattle.cds_base.specs.declared.name.TheConstants.{MOST_NAME_BYTES}
+use Rattle.cds_base.specs.declared.name.TheConstants.{FULL_STOP, HYPHEN, MOST_NAME_BYTES, UNDERSCORE}
 
 -- an ASCII letter, a digit, `-`, `_` or `.`
 abbrev pub is_name_byte : ℕ → Bool
-is_name_byte byte = ((is_ascii_alphanumeric byte || (byte == 45)) || (byte == 95)) || (byte == 46)
+is_name_byte byte = ((is_ascii_alphanumeric byte || (byte == HYPHEN)) || (byte == UNDERSCORE)) || (byte == FULL_STOP)
 
 -- 1 to 64 bytes, each of which may stand in a name
 abbrev pub is_name : List ℕ → Bool

@@ -44,7 +44,7 @@ pub use limits::{HUNDREDTHS, MOST_AMOUNT};
 pub use mem_door::MemDoor;
 pub use mem_sink::MemSink;
 pub use mem_source::MemSource;
-pub use name::{MOST_NAME_BYTES, Name};
+pub use name::{FULL_STOP, HYPHEN, MOST_NAME_BYTES, Name, UNDERSCORE};
 pub use named::{Named, NamedList, Place};
 pub use no_fail::{NoFailSink, NoFailSource};
 pub use peak::{AREA_LIMIT, HEIGHT_LIMIT, Line, Missing, Peak, Ratio, RawPeak, Window};

@@ -14,6 +14,15 @@ use std::marker::Model;
 /// The most bytes of a name.
 pub const MOST_NAME_BYTES: usize = 64;
 
+/// The first of the three marks that may stand in a name beside letters and digits.
+pub const HYPHEN: u8 = b'-';
+
+/// The second of the three marks.
+pub const UNDERSCORE: u8 = b'_';
+
+/// The third of the three marks.
+pub const FULL_STOP: u8 = b'.';
+
 /// The name of a trace, a method, a sequence, a component or a row: 1 to 64 of the ASCII letters, the digits,
 /// `-`, `_` and `.`. It holds its bytes itself, so it is copied as a number is. Seen as its bytes; names are
 /// ordered as their bytes are. This project's own rule.
@@ -116,7 +125,7 @@ fn are_name_bytes(bytes: &[u8]) -> bool
 fn is_name_byte(byte: u8) -> bool
     ensures { result ≡ is_name_byte byte }
 {
-    byte.is_ascii_alphanumeric() || byte == b'-' || byte == b'_' || byte == b'.'
+    byte.is_ascii_alphanumeric() || byte == HYPHEN || byte == UNDERSCORE || byte == FULL_STOP
 }
 
 fn padded(bytes: &[u8]) -> [u8; MOST_NAME_BYTES]

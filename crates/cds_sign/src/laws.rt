@@ -2,7 +2,7 @@
 ghost use Rattle.std.specs.Prelude.{◌≡◌, ◌-◌, ◌^◌};
 ghost use Rattle.cds_sign.specs.declared.limits.TheConstants.{MOST_ROWS, MOST_STANDARDS, MOST_AMOUNTS};
 ghost use Rattle.cds_sign.specs.declared.limits.TheConstants.{MOST_VERSIONS, MOST_DILUTION, MOST_EDITION, MOST_BASIS};
-ghost use Rattle.cds_sign.specs.declared.limits.TheConstants.{MOST_SIGNATURES, MOST_PRINTED_BYTES, TEXT_LIMIT};
+ghost use Rattle.cds_sign.specs.declared.limits.TheConstants.{FIRST_PRINTED, LAST_PRINTED, MOST_SIGNATURES, MOST_PRINTED_BYTES, TEXT_LIMIT};
 
 /// The limits that definitions cite: of rows, listed sequences, amounts, versions, dilutions, editions, basis numbers,
 /// signatures, of what a signature says, and of texts.
@@ -12,5 +12,6 @@ pub fn the_limits()
     ensures dilution { MOST_DILUTION ≡ 1000000 }
     ensures numbers { (MOST_EDITION ≡ 2 ^ 32 - 1) × (MOST_BASIS ≡ 2 ^ 63 - 1) }
     ensures signatures { (MOST_SIGNATURES ≡ 100) × (MOST_PRINTED_BYTES ≡ 64) }
+    ensures printed { (FIRST_PRINTED ≡ 32) × (LAST_PRINTED ≡ 126) }
     ensures text { TEXT_LIMIT ≡ 2 ^ 32 }
 {}

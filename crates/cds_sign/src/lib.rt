@@ -24,8 +24,8 @@ pub use command::{Change, Command};
 pub use inputs::{Inputs, Listed, ListedList, ListedRow, ListedRowList};
 pub use laws::the_limits;
 pub use limits::{
-    MOST_AMOUNTS, MOST_BASIS, MOST_DILUTION, MOST_EDITION, MOST_PRINTED_BYTES, MOST_ROWS,
-    MOST_SIGNATURES, MOST_STANDARDS, MOST_VERSIONS, TEXT_LIMIT,
+    FIRST_PRINTED, LAST_PRINTED, MOST_AMOUNTS, MOST_BASIS, MOST_DILUTION, MOST_EDITION,
+    MOST_PRINTED_BYTES, MOST_ROWS, MOST_SIGNATURES, MOST_STANDARDS, MOST_VERSIONS, TEXT_LIMIT,
 };
 pub use names::NameList;
 pub use printed::is_printed;

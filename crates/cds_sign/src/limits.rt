@@ -28,5 +28,11 @@ pub const MOST_SIGNATURES: u32 = 100;
 /// The most bytes of the name and of the meaning of a signature. The least is 1.
 pub const MOST_PRINTED_BYTES: usize = 64;
 
+/// The first of the printed bytes of a signature, a space.
+pub const FIRST_PRINTED: u8 = b' ';
+
+/// The last of the printed bytes of a signature, a tilde.
+pub const LAST_PRINTED: u8 = b'~';
+
 /// A text that changes the tables is shorter than this number of bytes, 2^32.
 pub const TEXT_LIMIT: u64 = 1 << 32;

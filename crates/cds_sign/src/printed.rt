@@ -3,7 +3,7 @@ ghost use Rattle.std.specs.Prelude.{◌≡◌};
 ghost use Rattle.std.specs.List.{list_all};
 ghost use Rattle.cds_sign.specs.Printed.{is_printed, is_printed_byte};
 
-use crate::limits::MOST_PRINTED_BYTES;
+use crate::limits::{FIRST_PRINTED, LAST_PRINTED, MOST_PRINTED_BYTES};
 
 /// Whether a text can be the name or the meaning of a signature: 1 to 64 bytes, each a printed ASCII character or a
 /// space. This project's own rule.
@@ -22,5 +22,5 @@ fn are_printed_bytes(text: &[u8]) -> bool
 fn is_printed_byte(byte: u8) -> bool
     ensures { result ≡ is_printed_byte byte }
 {
-    b' ' <= byte && byte <= b'~'
+    FIRST_PRINTED <= byte && byte <= LAST_PRINTED
 }
