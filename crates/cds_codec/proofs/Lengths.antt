@@ -1,5 +1,6 @@
 -- How long records are.
-use Rattle.std.proofs.Common.{◌≡◌, ℕ, zero, suc, ◌+◌, ◌*◌, ◌-◌, ◌/◌, ◌^◌, ◌<◌, ◌≤◌, ℤ, pos, ◌-ℤ◌, List, [], ◌∷◌, ◌++◌, length, Bool, true, false, cond, unsigned_abs, int_lt, refl, arith, inl, inr}
+use Rattle.std.proofs.Common.{◌≡◌, ℕ, zero, suc, ◌+◌, ◌*◌, ◌-◌, ◌/◌, ◌^◌, ◌<◌, ◌≤◌, ℤ, pos, ◌-ℤ◌, List, [], ◌∷◌, ◌++◌}
+use Rattle.std.proofs.Common.{length, Bool, true, false, cond, unsigned_abs, int_lt, refl, arith, inl, inr}
 use Rattle.std.specs.Prelude.{All, flat_map, map}
 use Rattle.std.proofs.lemmas.Int.{ints}
 use Rattle.std.proofs.lemmas.Bool.{cases_lt}
@@ -17,7 +18,9 @@ use Rattle.cds_sign.specs.Ranges.{IsChange, IsRow}
 use Rattle.cds_sign.specs.declared.command.Change.{Change}
 use Rattle.cds_sign.specs.declared.command.Change.TheVariants as changes
 use Rattle.cds_sign.specs.declared.row.Row.{Row}
-use Rattle.cds_codec.specs.Record.{bytes_of_32, bytes_of_64, byte_of_kind, byte_of_used, bytes_of_amount, bytes_of_event, bytes_of_few, bytes_of_many, bytes_of_name, bytes_of_row, bytes_of_text, bytes_of_three, carried_text, changed, fields_of, record_of}
+use Rattle.cds_codec.specs.Record.{bytes_of_32, bytes_of_64, byte_of_kind, byte_of_used, bytes_of_amount}
+use Rattle.cds_codec.specs.Record.{bytes_of_event, bytes_of_few, bytes_of_many, bytes_of_name, bytes_of_row}
+use Rattle.cds_codec.specs.Record.{bytes_of_text, bytes_of_three, carried_text, changed, fields_of, record_of}
 use Rattle.cds_codec.specs.declared.format.TheConstants.{FORMAT}
 use Rattle.cds_trace.specs.Differences.{folded, bytes_behind, bytes_of_differences}
 use Rattle.cds_trace.specs.SevenBits.{seven_bits, seven_bits_within}
@@ -38,7 +41,8 @@ within-length (suc k) (suc turns) n few = elim (cases_lt n 128) [
   | inl low ↦ let one : length (seven_bits_within (suc turns) n) ≡ 1 = grind (arith, nat_tests) in omega arith
   | inr high ↦
       let rest = within-length k turns (n / 128) (shift n (128 ^ suc k) (rw (pow-succ' 128 (suc k)) at few)) in
-      let more : length (seven_bits_within (suc turns) n) ≡ 1 + length (seven_bits_within turns (n / 128)) = grind (arith, nat_tests) in
+      let more : length (seven_bits_within (suc turns) n) ≡ 1 + length (seven_bits_within turns (n / 128)) =
+      grind (arith, nat_tests) in
       omega arith
 ]
 
@@ -62,14 +66,16 @@ difference-few sample before here there =
     omega arith
 
 -- so it takes at most five bytes
-difference-length : (sample before : ℤ) → IsSample sample → IsSample before → length (seven_bits (folded (sample -ℤ before))) ≤ 5
+difference-length : (sample before : ℤ) → IsSample sample → IsSample before
+    → length (seven_bits (folded (sample -ℤ before))) ≤ 5
 unfolding seven_bits
 difference-length sample before here there =
     let n = folded (sample -ℤ before) in
     within-length 4 n n (difference-few sample before here there)
 
 -- and all differences five each
-behind-length : (before : ℤ) (samples : List ℤ) → IsSample before → All IsSample samples → length (bytes_behind before samples) ≤ 5 * length samples
+behind-length : (before : ℤ) (samples : List ℤ) → IsSample before → All IsSample samples
+    → length (bytes_behind before samples) ≤ 5 * length samples
 unfolding bytes_behind
 behind-length before [] first all = omega arith
 behind-length before (sample ∷ rest) first all =
@@ -79,9 +85,11 @@ behind-length before (sample ∷ rest) first all =
     omega (arith, length-append (seven_bits (folded (sample -ℤ before))) (bytes_behind sample rest))
 
 -- the samples of a trace
-samples-length : (samples : List ℤ) → All IsSample samples → length (bytes_of_differences samples) ≤ 8 + 5 * length samples
+samples-length : (samples : List ℤ) → All IsSample samples
+    → length (bytes_of_differences samples) ≤ 8 + 5 * length samples
 samples-length [] all = omega arith
-samples-length (first ∷ rest) all = omega (arith, behind-length first rest (All-head IsSample first rest all) (All-tail IsSample first rest all))
+samples-length (first ∷ rest) all =
+    omega (arith, behind-length first rest (All-head IsSample first rest all) (All-tail IsSample first rest all))
 
 -- a number
 length-32 : (n : ℕ) → length (bytes_of_32 n) ≡ 4
@@ -93,7 +101,8 @@ unfolding bytes_of_64
 length-64 n = refl
 
 -- items take at most so many bytes each
-items-length : {A : Type 0} (f : A → List ℕ) (P : A → Type 0) (most : ℕ) → ((x : A) → P x → length (f x) ≤ most) → (xs : List A) → All P xs → length (flat_map f xs) ≤ most * length xs
+items-length : {A : Type 0} (f : A → List ℕ) (P : A → Type 0) (most : ℕ) → ((x : A) → P x → length (f x) ≤ most)
+    → (xs : List A) → All P xs → length (flat_map f xs) ≤ most * length xs
 items-length f P most each [] all = omega arith
 items-length f P most each (x ∷ xs) all =
     let one = each x (All-head P x xs all) in
@@ -111,7 +120,13 @@ name-bytes : (name : List ℕ) → IsName name → length (bytes_of_name name) �
 name-bytes name h = omega (arith, name-length name h)
 
 amount-bytes : (amount : List ℕ × ℕ) → IsName amount.0 → length (bytes_of_amount amount) ≤ 69
-amount-bytes amount h = omega (arith, name-length amount.0 h, length-32 amount.1, length-append (bytes_of_name amount.0) (bytes_of_32 amount.1))
+amount-bytes amount h =
+    omega (
+      arith,
+      name-length amount.0 h,
+      length-32 amount.1,
+      length-append (bytes_of_name amount.0) (bytes_of_32 amount.1),
+    )
 
 three-bytes : (a b c : ℕ) → length (bytes_of_three a b c) ≡ 12
 three-bytes a b c = simp (length-append, length-32) refl
@@ -127,36 +142,54 @@ event-bytes (timed.Skim from to) = omega (arith, three-bytes from to 0)
 -- the amounts of a row
 pub names-amounts : (amounts : List (List ℕ × ℕ)) → All IsName (map (λ a. a.0) amounts) → All (λ a. IsName a.0) amounts
 names-amounts [] all = All-nil (λ a. IsName a.0)
-names-amounts (a ∷ amounts) all = All-cons (λ a. IsName a.0) a amounts (All-head IsName a.0 (map (λ a. a.0) amounts) all) (names-amounts amounts (All-tail IsName a.0 (map (λ a. a.0) amounts) all))
+names-amounts (a ∷ amounts) all =
+    All-cons (λ a. IsName a.0) a amounts (All-head IsName a.0 (map (λ a. a.0) amounts) all)
+    (names-amounts amounts (All-tail IsName a.0 (map (λ a. a.0) amounts) all))
 
 -- the parts of a row
-row-sum : (label : List ℕ) (kind : ℕ) (trace version : List ℕ) (used : ℕ) (u v amounts events : List ℕ) → length label ≤ 65 → length trace ≤ 65 → length version ≡ 4 → length u ≡ 4 → length v ≡ 4
-    → length amounts ≤ 2209 → length events ≤ 833 → length (label ++ kind ∷ trace ++ version ++ used ∷ u ++ v ++ amounts ++ events) ≤ 3186
+row-sum : (label : List ℕ) (kind : ℕ) (trace version : List ℕ) (used : ℕ) (u v amounts events : List ℕ)
+    → length label ≤ 65 → length trace ≤ 65 → length version ≡ 4 → length u ≡ 4 → length v ≡ 4
+    → length amounts ≤ 2209 → length events ≤ 833
+    → length (label ++ kind ∷ trace ++ version ++ used ∷ u ++ v ++ amounts ++ events) ≤ 3186
 row-sum label kind trace version used u v amounts events l t a b c m e = simp length-append (omega arith)
 
 row-bytes : (row : Row) → IsRow row → length (bytes_of_row row) ≤ 3186
 row-bytes row h =
     let few = h.amounts.few in
     let many = h.events.count in
-    let amounts = items-length bytes_of_amount (λ a. IsName a.0) 69 amount-bytes row.amounts (names-amounts row.amounts h.amounts.each) in
-    let events = items-length bytes_of_event (λ e. is_event e ≡ true) 13 (λ e k. event-bytes e) row.events h.events.each in
+    let amounts = items-length bytes_of_amount (λ a. IsName a.0) 69 amount-bytes row.amounts
+    (names-amounts row.amounts h.amounts.each) in
+    let events = items-length bytes_of_event (λ e. is_event e ≡ true) 13 (λ e k. event-bytes e) row.events
+    h.events.each in
     let named = length-map row.amounts (λ a. a.0) in
-    row-sum (bytes_of_name row.label) (byte_of_kind row.kind) (bytes_of_name row.trace) (bytes_of_32 row.version) (byte_of_used row.used) (bytes_of_32 row.u) (bytes_of_32 row.v)
-    (bytes_of_few bytes_of_amount row.amounts) (bytes_of_few bytes_of_event row.events) (name-bytes row.label h.label) (name-bytes row.trace h.trace) (length-32 row.version) (length-32 row.u) (length-32 row.v) (omega arith) (omega arith)
+    row-sum (bytes_of_name row.label) (byte_of_kind row.kind) (bytes_of_name row.trace) (bytes_of_32 row.version)
+    (byte_of_used row.used) (bytes_of_32 row.u) (bytes_of_32 row.v)
+    (bytes_of_few bytes_of_amount row.amounts) (bytes_of_few bytes_of_event row.events) (name-bytes row.label h.label)
+    (name-bytes row.trace h.trace) (length-32 row.version) (length-32 row.u) (length-32 row.v) (omega arith)
+    (omega arith)
 
 -- the parts of a sequence, of events that are put, and of a signature
 five-sum : (a b c d e : List ℕ) → length (a ++ b ++ c ++ d ++ e) ≡ length a + length b + length c + length d + length e
 five-sum a b c d e = simp length-append (omega arith)
 
-six-sum : (a b c d e f : List ℕ) → length ((a ++ b ++ c) ++ (d ++ e ++ f)) ≡ length a + length b + length c + length d + length e + length f
+six-sum : (a b c d e f : List ℕ)
+    → length ((a ++ b ++ c) ++ (d ++ e ++ f)) ≡ length a + length b + length c + length d + length e + length f
 six-sum a b c d e f = simp length-append (omega arith)
 
 -- the fields of a change
-fields-length : (change : Change) → IsChange change → length (fields_of FORMAT change) ≤ length (carried_text change) + 4000000
+fields-length : (change : Change) → IsChange change
+    → length (fields_of FORMAT change) ≤ length (carried_text change) + 4000000
 fields-length (changes.Trace name signal) h =
     let few = h.1.few in
-    omega (arith, samples-length signal.samples h.1.samples, few, length-64 signal.period, length-append (bytes_of_64 signal.period) (bytes_of_differences signal.samples))
-fields-length (changes.Draft name text) h = omega (arith, length-32 (length text), length-append (bytes_of_32 (length text)) text)
+    omega (
+      arith,
+      samples-length signal.samples h.1.samples,
+      few,
+      length-64 signal.period,
+      length-append (bytes_of_64 signal.period) (bytes_of_differences signal.samples),
+    )
+fields-length (changes.Draft name text) h =
+    omega (arith, length-32 (length text), length-append (bytes_of_32 (length text)) text)
 fields-length (changes.Freeze name version) h = omega (arith, length-32 version)
 fields-length (changes.Sequence name edition method version standards rows) h =
     let few = h.0.standards.count.few in
@@ -164,7 +197,8 @@ fields-length (changes.Sequence name edition method version standards rows) h =
     let one = name-bytes method h.0.method in
     let names = items-length bytes_of_name IsName 65 name-bytes standards h.0.standards.each in
     let all = items-length bytes_of_row IsRow 3186 row-bytes rows h.1.each in
-    let sum = five-sum (bytes_of_64 edition) (bytes_of_name method) (bytes_of_32 version) (bytes_of_few bytes_of_name standards) (bytes_of_many bytes_of_row rows) in
+    let sum = five-sum (bytes_of_64 edition) (bytes_of_name method) (bytes_of_32 version)
+    (bytes_of_few bytes_of_name standards) (bytes_of_many bytes_of_row rows) in
     let whole = length-append (bytes_of_32 (length rows)) (flat_map bytes_of_row rows) in
     omega (arith, length-32, length-64)
 fields-length (changes.Events name edition row events) h =
@@ -173,11 +207,13 @@ fields-length (changes.Events name edition row events) h =
     let sum = length-append (bytes_of_64 edition ++ bytes_of_32 row) (bytes_of_few bytes_of_event events) in
     let front = length-append (bytes_of_64 edition) (bytes_of_32 row) in
     omega (arith, length-32, length-64)
-fields-length (changes.Rebind name edition version) h = omega (arith, length-append (bytes_of_64 edition) (bytes_of_32 version), length-32, length-64)
+fields-length (changes.Rebind name edition version) h =
+    omega (arith, length-append (bytes_of_64 edition) (bytes_of_32 version), length-32, length-64)
 fields-length (changes.Sign sequence number basis moment name meaning text) h =
     let one = printed-length name h.name in
     let two = printed-length meaning h.meaning in
-    let sum = six-sum (bytes_of_32 number) (bytes_of_64 basis) (bytes_of_64 moment) (bytes_of_text name) (bytes_of_text meaning) (bytes_of_text text) in
+    let sum = six-sum (bytes_of_32 number) (bytes_of_64 basis) (bytes_of_64 moment) (bytes_of_text name)
+    (bytes_of_text meaning) (bytes_of_text text) in
     let a = length-append (bytes_of_32 (length name)) name in
     let b = length-append (bytes_of_32 (length meaning)) meaning in
     let c = length-append (bytes_of_32 (length text)) text in
@@ -193,7 +229,8 @@ changed-name (changes.Rebind name edition version) h = h.name
 changed-name (changes.Sign sequence number basis moment name meaning text) h = h.sequence
 
 -- a record is at most 2^22 bytes longer than the text that the change carries
-pub record-length : (change : Change) → IsChange change → length (record_of change) ≤ length (carried_text change) + 2 ^ 22
+pub record-length : (change : Change) → IsChange change
+    → length (record_of change) ≤ length (carried_text change) + 2 ^ 22
 record-length change h =
     let name = name-length (changed change) (changed-name change h) in
     let fields = fields-length change h in

@@ -3,7 +3,8 @@ use Rattle.std.proofs.Common.{◌≡◌, ℕ, zero, suc, ◌+◌, ◌*◌, ◌-�
 use Rattle.std.proofs.Math.Nat.{pow-succ'}
 
 -- so many sevens of bits
-pub sevens-size : (turns low high : ℕ) → 0 < turns → low < 128 → high < 128 ^ (turns - 1) → low + 128 * high < 128 ^ turns
+pub sevens-size : (turns low high : ℕ) → 0 < turns → low < 128 → high < 128 ^ (turns - 1)
+    → low + 128 * high < 128 ^ turns
 sevens-size zero low high some small few = absurd (omega arith)
 sevens-size (suc turns) low high some small few =
     let less : turns ≡ suc turns - 1 = omega arith in

@@ -1,7 +1,9 @@
 -- How the fields of a record are read from left to right, for the private functions that read them: a field is a value
 -- and the bytes behind it, or there is none. That what is read is a record, and that each record is read, is said over
 -- `Record`; these definitions serve that proof alone.
-use Rattle.std.specs.Prelude.{ℕ, zero, suc, ◌+◌, ◌-◌, ◌*◌, ◌/◌, ◌%◌, ◌==◌, ◌||◌, ◌&&◌, not, nat_lt, Bool, true, false, ℤ, pos, negsuc, ◌+ℤ◌, List, [], ◌∷◌, ◌++◌, length, take, drop, Option, Some, None, Result, Ok, Err, if◌then◌else◌}
+use Rattle.std.specs.Prelude.{ℕ, zero, suc, ◌+◌, ◌-◌, ◌*◌, ◌/◌, ◌%◌, ◌==◌, ◌||◌, ◌&&◌, not, nat_lt, Bool, true, false}
+use Rattle.std.specs.Prelude.{ℤ, pos, negsuc, ◌+ℤ◌, List, [], ◌∷◌, ◌++◌, length, take, drop, Option, Some, None, Result}
+use Rattle.std.specs.Prelude.{Ok, Err, if◌then◌else◌}
 use Rattle.std.specs.Int.{Width, w32, w64, byte_len, from_be_bytes, cast_signed}
 use Rattle.std.specs.List.{list_all}
 use Rattle.std.specs.Ordering.{is_lt}
@@ -22,12 +24,14 @@ use Rattle.cds_sign.specs.Printed.{is_printed}
 use Rattle.cds_sign.specs.declared.command.Change.{Change}
 use Rattle.cds_sign.specs.declared.command.Change.TheVariants as changes
 use Rattle.cds_base.specs.declared.limits.TheConstants.{MOST_AMOUNT}
-use Rattle.cds_sign.specs.declared.limits.TheConstants.{MOST_ROWS, MOST_STANDARDS, MOST_AMOUNTS, MOST_VERSIONS, MOST_DILUTION, MOST_EDITION, MOST_BASIS, MOST_SIGNATURES}
+use Rattle.cds_sign.specs.declared.limits.TheConstants.{MOST_ROWS, MOST_STANDARDS, MOST_AMOUNTS, MOST_VERSIONS}
+use Rattle.cds_sign.specs.declared.limits.TheConstants.{MOST_DILUTION, MOST_EDITION, MOST_BASIS, MOST_SIGNATURES}
 use Rattle.cds_sign.specs.declared.row.Row.{Row}
 use Rattle.cds_sign.specs.declared.row.RowKind.{RowKind}
 use Rattle.cds_sign.specs.declared.row.RowKind.TheVariants as kinds
 use Rattle.cds_codec.specs.Record.{most_samples_in}
-use Rattle.cds_codec.specs.declared.format.TheConstants.{FIRST_FORMAT, FORMAT, TRACE, DRAFT, FREEZE, SEQUENCE, EVENTS, REBIND, SIGN}
+use Rattle.cds_codec.specs.declared.format.TheConstants.{FIRST_FORMAT, FORMAT, TRACE, DRAFT, FREEZE, SEQUENCE, EVENTS}
+use Rattle.cds_codec.specs.declared.format.TheConstants.{REBIND, SIGN}
 use Rattle.cds_codec.specs.declared.rows.RowFront.{RowFront}
 use Rattle.cds_codec.specs.declared.samples.TheConstants.{MOST_SEVENS}
 

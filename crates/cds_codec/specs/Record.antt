@@ -1,6 +1,7 @@
 -- The records of a change: a byte of the format, the byte of its kind, and its fields. A number stands with its high
 -- byte first. This project's own form.
-use Rattle.std.specs.Prelude.{◌≡◌, ℕ, ◌≤◌, ◌==◌, ◌⊎◌, ⊤, ℤ, Bool, List, [], ◌∷◌, ◌++◌, flat_map, length, Option, Some, None, if◌then◌else◌}
+use Rattle.std.specs.Prelude.{◌≡◌, ℕ, ◌≤◌, ◌==◌, ◌⊎◌, ⊤, ℤ, Bool, List, [], ◌∷◌, ◌++◌, flat_map, length, Option, Some}
+use Rattle.std.specs.Prelude.{None, if◌then◌else◌}
 use Rattle.std.specs.Int.{w32, w64, to_be_bytes}
 use Rattle.cds_base.specs.declared.event.Event.{Event}
 use Rattle.cds_base.specs.declared.event.Event.TheVariants as timed
@@ -132,8 +133,8 @@ changed (changes.Events name edition row events) = name
 changed (changes.Rebind name edition version) = name
 changed (changes.Sign sequence number basis moment name meaning text) = sequence
 
--- the fields of a change in a format, behind the name of what is changed: of a freeze the version in 32 bits, of a binding
--- the edition before in 64 bits and the version in 32
+-- the fields of a change in a format, behind the name of what is changed: of a freeze the version in 32 bits, of a
+-- binding the edition before in 64 bits and the version in 32
 abbrev pub fields_of : ℕ → Change → List ℕ
 fields_of format (changes.Trace name signal) = bytes_of_signal format signal
 fields_of format (changes.Draft name text) = bytes_of_text text
