@@ -9,16 +9,17 @@ use Rattle.std.proofs.Math.Nat.{mul-suc, pow-succ'}
 use Rattle.std.proofs.lemmas.List.{length-append, length-map}
 use Rattle.std.proofs.lemmas.List.Concat.{flat_map-cons}
 use Rattle.std.proofs.lemmas.List.Elements.{All-nil, All-cons, All-head, All-tail}
+use Rattle.cds_base.specs.EventParts.{event_parts}
 use Rattle.cds_base.specs.EventRange.{is_event}
 use Rattle.cds_base.specs.NameText.{IsName}
 use Rattle.cds_base.specs.declared.event.Event.{Event}
-use Rattle.cds_base.specs.declared.event.Event.TheVariants as timed
 use Rattle.cds_sign.specs.Printed.{is_printed}
 use Rattle.cds_sign.specs.Ranges.{IsChange, IsRow}
+use Rattle.cds_sign.specs.RowKinds.{kind_number}
 use Rattle.cds_sign.specs.declared.command.Change.{Change}
 use Rattle.cds_sign.specs.declared.command.Change.TheVariants as changes
 use Rattle.cds_sign.specs.declared.row.Row.{Row}
-use Rattle.cds_codec.specs.Record.{bytes_of_32, bytes_of_64, byte_of_kind, byte_of_used, bytes_of_amount}
+use Rattle.cds_codec.specs.Record.{bytes_of_32, bytes_of_64, byte_of_used, bytes_of_amount}
 use Rattle.cds_codec.specs.Record.{bytes_of_event, bytes_of_few, bytes_of_many, bytes_of_name, bytes_of_row}
 use Rattle.cds_codec.specs.Record.{bytes_of_text, bytes_of_three, carried_text, changed, fields_of, record_of}
 use Rattle.cds_codec.specs.declared.format.TheConstants.{FORMAT}
@@ -132,12 +133,9 @@ three-bytes : (a b c : ℕ) → length (bytes_of_three a b c) ≡ 12
 three-bytes a b c = simp (length-append, length-32) refl
 
 event-bytes : (event : Event) → length (bytes_of_event event) ≤ 13
-event-bytes (timed.Inhibit from to) = omega (arith, three-bytes from to 0)
-event-bytes (timed.Valley from to) = omega (arith, three-bytes from to 0)
-event-bytes (timed.Drop at) = omega (arith, three-bytes at 0 0)
-event-bytes (timed.Baseline from to) = omega (arith, three-bytes from to 0)
-event-bytes (timed.Slope at on off) = omega (arith, three-bytes at on off)
-event-bytes (timed.Skim from to) = omega (arith, three-bytes from to 0)
+event-bytes event =
+    let parts = event_parts event in
+    omega (arith, three-bytes parts.first parts.second parts.third)
 
 -- the amounts of a row
 pub names-amounts : (amounts : List (List ℕ × ℕ)) → All IsName (map (λ a. a.0) amounts) → All (λ a. IsName a.0) amounts
@@ -162,7 +160,7 @@ row-bytes row h =
     let events = items-length bytes_of_event (λ e. is_event e ≡ true) 13 (λ e k. event-bytes e) row.events
     h.events.each in
     let named = length-map row.amounts (λ a. a.0) in
-    row-sum (bytes_of_name row.label) (byte_of_kind row.kind) (bytes_of_name row.trace) (bytes_of_32 row.version)
+    row-sum (bytes_of_name row.label) (kind_number row.kind) (bytes_of_name row.trace) (bytes_of_32 row.version)
     (byte_of_used row.used) (bytes_of_32 row.u) (bytes_of_32 row.v)
     (bytes_of_few bytes_of_amount row.amounts) (bytes_of_few bytes_of_event row.events) (name-bytes row.label h.label)
     (name-bytes row.trace h.trace) (length-32 row.version) (length-32 row.u) (length-32 row.v) (omega arith)

@@ -12,13 +12,14 @@ use Rattle.cds_base.specs.declared.event.Event.{Event}
 use Rattle.cds_base.specs.declared.event.Event.TheVariants as timed
 use Rattle.cds_base.specs.declared.event.TheConstants.{MOST_EVENTS}
 use Rattle.cds_sign.specs.Ranges.{AreAmountNames, AreRows, AreStandards, IsRow, IsWithin}
+use Rattle.cds_sign.specs.RowKinds.{kind_number}
 use Rattle.cds_base.specs.declared.limits.TheConstants.{MOST_AMOUNT}
 use Rattle.cds_sign.specs.declared.limits.TheConstants.{MOST_ROWS, MOST_STANDARDS, MOST_AMOUNTS, MOST_VERSIONS}
 use Rattle.cds_sign.specs.declared.limits.TheConstants.{MOST_DILUTION}
 use Rattle.cds_sign.specs.declared.row.Row.{Row}
 use Rattle.cds_sign.specs.declared.row.RowKind.{RowKind}
 use Rattle.cds_sign.specs.declared.row.RowKind.TheVariants as kinds
-use Rattle.cds_codec.specs.Record.{bytes_of_32, byte_of_kind, byte_of_used, bytes_of_amount, bytes_of_event}
+use Rattle.cds_codec.specs.Record.{bytes_of_32, byte_of_used, bytes_of_amount, bytes_of_event}
 use Rattle.cds_codec.specs.Record.{bytes_of_few, bytes_of_many, bytes_of_name, bytes_of_row, bytes_of_three}
 use Rattle.cds_codec.specs.Reading.{amount_at, amounts_at, are_different, are_rising, event_at, event_of, events_at}
 use Rattle.cds_codec.specs.Reading.{passing, ranged_event_of, row_at, row_front_at, row_kind_at, row_kind_of, row_of}
@@ -37,7 +38,7 @@ chosen true x o y e = inl (refl, some_is x y e)
 chosen false x o y e = inr e
 
 -- a kind of rows
-kind_stated : (byte : ℕ) (kind : RowKind) → row_kind_of byte ≡ Some kind → byte ∷ [] ≡ byte_of_kind kind ∷ []
+kind_stated : (byte : ℕ) (kind : RowKind) → row_kind_of byte ≡ Some kind → byte ∷ [] ≡ kind_number kind ∷ []
 kind_stated byte kind e = elim (chosen (byte == 1) kinds.Blank _ kind e) [
   | inl p ↦ rw (← p.1, eqb-true _ _ p.0) refl
   | inr e ↦ elim (chosen (byte == 2) kinds.Standard _ kind e) [
@@ -52,13 +53,13 @@ kind_stated byte kind e = elim (chosen (byte == 1) kinds.Blank _ kind e) [
   ]
 ]
 
-IsField-kind : IsField row_kind_at (λ kind. byte_of_kind kind ∷ []) (λ kind. ⊤)
+IsField-kind : IsField row_kind_at (λ kind. kind_number kind ∷ []) (λ kind. ⊤)
 unfolding row_kind_at
-IsField-kind = IsField-through IsField-byte row_kind_of (λ kind. byte_of_kind kind ∷ []) (λ kind. ⊤)
+IsField-kind = IsField-through IsField-byte row_kind_of (λ kind. kind_number kind ∷ []) (λ kind. ⊤)
     (λ byte kind p e. (kind_stated byte kind e, tt)) back
   where
     back : (kind : RowKind) → ⊤
-        → (byte : ℕ) × (byte < 256) × (row_kind_of byte ≡ Some kind) × (byte_of_kind kind ∷ [] ≡ byte ∷ [])
+        → (byte : ℕ) × (byte < 256) × (row_kind_of byte ≡ Some kind) × (kind_number kind ∷ [] ≡ byte ∷ [])
     back kinds.Blank h = (1, omega arith, refl, refl)
     back kinds.Standard h = (2, omega arith, refl, refl)
     back kinds.Replicate h = (3, omega arith, refl, refl)
@@ -245,7 +246,7 @@ record IsFront (front : RowFront) : Type 0 where
 abbrev bytes_of_front : RowFront → List ℕ
 bytes_of_front f =
     bytes_of_name f.label
-    ++ ((byte_of_kind f.kind ∷ [])
+    ++ ((kind_number f.kind ∷ [])
     ++ (bytes_of_name f.trace
     ++ (bytes_of_32 f.version ++ ((byte_of_used f.used ∷ []) ++ (bytes_of_32 f.u ++ bytes_of_32 f.v)))))
 
@@ -290,7 +291,7 @@ row_spelled : (front : RowFront) (amounts : List (List ℕ × ℕ)) (events : Li
     → bytes_of_front front ++ (bytes_of_few bytes_of_amount amounts ++ bytes_of_few bytes_of_event events)
     ≡ bytes_of_row (row_of (front, (amounts, events)))
 row_spelled f amounts events =
-    row_regrouped (bytes_of_name f.label) (byte_of_kind f.kind ∷ []) (bytes_of_name f.trace) (bytes_of_32 f.version)
+    row_regrouped (bytes_of_name f.label) (kind_number f.kind ∷ []) (bytes_of_name f.trace) (bytes_of_32 f.version)
     (byte_of_used f.used ∷ []) (bytes_of_32 f.u) (bytes_of_32 f.v) (bytes_of_few bytes_of_amount amounts)
     (bytes_of_few bytes_of_event events)
 

@@ -3,18 +3,17 @@
 use Rattle.std.specs.Prelude.{◌≡◌, ℕ, ◌≤◌, ◌==◌, ◌⊎◌, ⊤, ℤ, Bool, List, [], ◌∷◌, ◌++◌, flat_map, length, Option, Some}
 use Rattle.std.specs.Prelude.{None, if◌then◌else◌}
 use Rattle.std.specs.Int.{w32, w64, to_be_bytes}
+use Rattle.cds_base.specs.EventParts.{EventParts, event_parts}
 use Rattle.cds_base.specs.declared.event.Event.{Event}
-use Rattle.cds_base.specs.declared.event.Event.TheVariants as timed
 use Rattle.cds_trace.specs.Differences.{bytes_of_differences}
 use Rattle.cds_trace.specs.SampleBytes.{bytes_of_sample}
 use Rattle.cds_trace.specs.Signal.{Signal}
 use Rattle.cds_trace.specs.declared.trace.TheConstants.{MOST_SAMPLES}
 use Rattle.cds_sign.specs.Ranges.{IsChange}
+use Rattle.cds_sign.specs.RowKinds.{kind_number}
 use Rattle.cds_sign.specs.declared.command.Change.{Change}
 use Rattle.cds_sign.specs.declared.command.Change.TheVariants as changes
 use Rattle.cds_sign.specs.declared.row.Row.{Row}
-use Rattle.cds_sign.specs.declared.row.RowKind.{RowKind}
-use Rattle.cds_sign.specs.declared.row.RowKind.TheVariants as kinds
 use Rattle.cds_codec.specs.declared.format.TheConstants.{FIRST_FORMAT, FORMAT, MOST_FIRST_SAMPLES}
 use Rattle.cds_codec.specs.declared.format.TheConstants.{TRACE, DRAFT, FREEZE, SEQUENCE, EVENTS, REBIND, SIGN}
 
@@ -59,21 +58,13 @@ bytes_of_amount amount = bytes_of_name amount.0 ++ bytes_of_32 amount.1
 abbrev pub bytes_of_three : ℕ → ℕ → ℕ → List ℕ
 bytes_of_three a b c = bytes_of_32 a ++ bytes_of_32 b ++ bytes_of_32 c
 
+-- a kind of events in a byte, and its three numbers
+abbrev pub bytes_of_parts : EventParts → List ℕ
+bytes_of_parts parts = parts.kind ∷ bytes_of_three parts.first parts.second parts.third
+
 -- an event: the byte of its kind, and three numbers, 0 where the kind has fewer
 abbrev pub bytes_of_event : Event → List ℕ
-bytes_of_event (timed.Inhibit from to) = 1 ∷ bytes_of_three from to 0
-bytes_of_event (timed.Valley from to) = 2 ∷ bytes_of_three from to 0
-bytes_of_event (timed.Drop at) = 3 ∷ bytes_of_three at 0 0
-bytes_of_event (timed.Baseline from to) = 4 ∷ bytes_of_three from to 0
-bytes_of_event (timed.Slope at on off) = 5 ∷ bytes_of_three at on off
-bytes_of_event (timed.Skim from to) = 6 ∷ bytes_of_three from to 0
-
--- the byte of what a row is injected for
-abbrev pub byte_of_kind : RowKind → ℕ
-byte_of_kind kinds.Blank = 1
-byte_of_kind kinds.Standard = 2
-byte_of_kind kinds.Replicate = 3
-byte_of_kind kinds.Sample = 4
+bytes_of_event event = bytes_of_parts (event_parts event)
 
 -- the byte of whether a row is used
 abbrev pub byte_of_used : Bool → ℕ
@@ -84,7 +75,7 @@ byte_of_used used = if used then 1 else 0
 abbrev pub bytes_of_row : Row → List ℕ
 bytes_of_row row =
     bytes_of_name row.label
-    ++ byte_of_kind row.kind ∷ bytes_of_name row.trace
+    ++ kind_number row.kind ∷ bytes_of_name row.trace
     ++ bytes_of_32 row.version
     ++ byte_of_used row.used ∷ bytes_of_32 row.u
     ++ bytes_of_32 row.v

@@ -1,9 +1,10 @@
 //! Appending the fields of a record to bytes.
 ghost use Rattle.std.specs.Prelude.{◌≡◌, ◌∷◌, ◌++◌, ◌<◌, ◌≤◌, ◌^◌, ⊤, All, IfOk, List, OnOk, flat_map, length, ℕ};
 ghost use Rattle.cds_codec.specs.Record.{bytes_of_32, bytes_of_64};
-ghost use Rattle.cds_codec.specs.Record.{byte_of_kind, byte_of_used, bytes_of_amount, bytes_of_event, bytes_of_few};
+ghost use Rattle.cds_codec.specs.Record.{byte_of_used, bytes_of_amount, bytes_of_event, bytes_of_few};
 ghost use Rattle.cds_codec.specs.Record.{bytes_of_many, bytes_of_name, bytes_of_row, bytes_of_text, bytes_of_three};
 ghost use Rattle.cds_sign.specs.Ranges.{IsRow};
+ghost use Rattle.cds_sign.specs.RowKinds.{kind_number};
 
 use cds_base::{Event, Name};
 use cds_sign::{Row, RowKind};
@@ -142,7 +143,7 @@ impl Field for Row {
 
     fn push(&self, bytes: &mut Vec<u8>) -> Result<(), AllocError> {
         self.label.push(bytes)?;
-        bytes.push(byte_of_kind(self.kind))?;
+        bytes.push(kind_number(self.kind))?;
         self.trace.push(bytes)?;
         self.version.push(bytes)?;
         bytes.push(u8::from(self.used))?;
@@ -153,8 +154,9 @@ impl Field for Row {
     }
 }
 
-fn byte_of_kind(kind: RowKind) -> u8
-    ensures { result ≡ byte_of_kind kind }
+/// The number of what a row is injected for.
+fn kind_number(kind: RowKind) -> u8
+    ensures { result ≡ kind_number kind }
 {
     match kind {
         RowKind::Blank => 1,
