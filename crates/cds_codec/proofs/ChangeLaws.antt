@@ -14,7 +14,8 @@ use Rattle.cds_sign.specs.declared.command.Change.TheVariants as changes
 use Rattle.cds_sign.specs.declared.limits.TheConstants.{MOST_ROWS, MOST_VERSIONS, MOST_EDITION, MOST_BASIS}
 use Rattle.cds_sign.specs.declared.limits.TheConstants.{MOST_SIGNATURES}
 use Rattle.cds_codec.specs.Record.{bytes_of_32, bytes_of_64, bytes_of_event, bytes_of_few, bytes_of_many, bytes_of_name}
-use Rattle.cds_codec.specs.Record.{bytes_of_row, bytes_of_text, changed, fields_of, kind_of, record_in, IsFormat}
+use Rattle.cds_codec.specs.Record.{bytes_of_row, bytes_of_text, changed, fields_of, kind_of, record_in, record_of}
+use Rattle.cds_codec.specs.Record.{IsFormat}
 use Rattle.cds_codec.specs.Record.{IsRecord, Reads, StandsIn}
 use Rattle.cds_codec.specs.Reading.{Taken, both, through, bound_at, change_at, change_of, draft_at, edition_at}
 use Rattle.cds_codec.specs.Reading.{events_at, freeze_at, is_format, name_at, number_in, put_events_at, rebind_at}
@@ -367,3 +368,39 @@ reads bytes None fits e = λ change is. let read = record_again bytes change is 
 -- a record states one change
 pub one_change : (bytes : List ℕ) (c d : Change) → IsRecord bytes c → IsRecord bytes d → c ≡ d
 one_change bytes c d here there = some_is c d (sym (record_again bytes c here) ∙ record_again bytes d there)
+
+-- in one format, which is its first byte
+pub one_format : (bytes : List ℕ) (c d : Change) (here : IsRecord bytes c) (there : IsRecord bytes d)
+    → here.format ≡ there.format
+one_format bytes c d here there = let both = sym here.spelled ∙ there.spelled in cc
+
+-- a change that may be stands in a record of today
+stands-today : (change : Change) → IsChange change → StandsIn FORMAT change
+stands-today (changes.Trace name signal) h = h.1.few
+stands-today (changes.Draft name text) h = tt
+stands-today (changes.Freeze name version) h = tt
+stands-today (changes.Sequence name edition method version standards rows) h = tt
+stands-today (changes.Events name edition row events) h = tt
+stands-today (changes.Rebind name edition version) h = tt
+stands-today (changes.Sign sequence number basis moment name meaning text) h = tt
+
+-- what is written is a record
+pub is_record : (format : ℕ) (change : Change) → IsFormat format → IsChange change → StandsIn format change
+    → IsRecord (record_in format change) change
+is_record format change known possible stands =
+    record { format = format; known = known; possible = possible; stands = stands; spelled = refl }
+
+pub record-today : (change : Change) → IsChange change → IsRecord (record_of change) change
+record-today change possible = is_record FORMAT change (inr refl) possible (stands-today change possible)
+
+-- a record reads as its change
+pub reads_back : (bytes : List ℕ) (change : Change) (stated : Option Change) → IsRecord bytes change
+    → Reads bytes stated → stated ≡ Some change
+reads_back bytes change None is none = absurd (none change is)
+reads_back bytes change (Some other) is there = ap Some (one_change bytes other change there is)
+
+-- a change has one record in a format
+pub one_record : (a b : List ℕ) (change : Change) (here : IsRecord a change) (there : IsRecord b change)
+    → here.format ≡ there.format → a ≡ b
+one_record a b change here there same =
+    here.spelled ∙ ap (λ (format : ℕ). record_in format change) same ∙ sym there.spelled

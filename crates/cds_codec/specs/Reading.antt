@@ -1,6 +1,6 @@
 -- How the fields of a record are read from left to right, for the private functions that read them: a field is a value
--- and the bytes behind it, or there is none. That what is read is a record, and that each record is read, is said over
--- `Record`; these definitions serve that proof alone.
+-- and the bytes behind it, or there is none. No public clause names these definitions: that what is read is a record,
+-- and that each record is read, is said over `Record`, in which the grammar of records stands.
 use Rattle.std.specs.Prelude.{ℕ, zero, suc, ◌+◌, ◌-◌, ◌*◌, ◌/◌, ◌%◌, ◌==◌, ◌||◌, ◌&&◌, not, nat_lt, Bool, true, false}
 use Rattle.std.specs.Prelude.{ℤ, pos, negsuc, ◌+ℤ◌, List, [], ◌∷◌, ◌++◌, length, take, drop, Option, Some, None, Result}
 use Rattle.std.specs.Prelude.{Ok, Err, if◌then◌else◌}

@@ -17,7 +17,10 @@ mod sequences;
 mod writing;
 
 pub use format::MOST_FIRST_SAMPLES;
-pub use laws::{each_record_states_one_change, the_kinds, the_limits};
+pub use laws::{
+    each_change_has_one_record, each_record_states_one_change, the_kinds, the_limits,
+    what_is_written_reads_back,
+};
 pub use reading::{convert, read};
 pub use writing::write;
 
