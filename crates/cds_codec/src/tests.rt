@@ -5,7 +5,7 @@ use std::alloc::Global;
 use std::test::Fail;
 
 /// Records as they are written today: what each shows, its bytes, and the numbers of the change.
-const RECORDS: [(&str, &[u8], &[u64]); 11] = [
+const RECORDS: [(&str, &[u8], &[u64]); 12] = [
     ("a freeze, 8 bytes", b"\x02\x03\x01m\0\0\0\x01", &[3, 1]),
     ("a draft", b"\x02\x02\x03a.B\0\0\0\nbunch = 1\n", &[2, 10]),
     (
@@ -59,10 +59,16 @@ const RECORDS: [(&str, &[u8], &[u64]); 11] = [
           proved\0\0\0\x01\n",
         &[7, 100, 9223372036854775807, 253402300799],
     ),
+    (
+        "a signature by 64 bytes, of a text without a byte",
+        b"\x02\x07\x01s\0\0\0\x01\0\0\0\0\0\0\0\x01\0\0\0\0\0\0\0\0\0\0\0@nnnnnnnnnnnnnnnn\
+          nnnnnnnnnnnnnnnnnnnnnnnnnnnnnnnnnnnnnnnnnnnnnnnn\0\0\0\x01 \0\0\0\0",
+        &[7, 1, 1, 0],
+    ),
 ];
 
 /// Records of the first format: what each shows, its bytes, and the record of the same change as it is written today.
-const FIRST_RECORDS: [(&str, &[u8], &[u8]); 5] = [
+const FIRST_RECORDS: [(&str, &[u8], &[u8]); 8] = [
     (
         "a freeze of the first format",
         b"\x01\x03\x01m\0\0\x03\xe8",
@@ -90,10 +96,27 @@ const FIRST_RECORDS: [(&str, &[u8], &[u8]); 5] = [
         b"\x02\x04\x01s\0\0\0\0\0\0\0\0\x01m\0\0\0\x01\x01\x02b1\0\0\0\x01\x01X\x04\x01t\0\0\0\0\0\0\0\0\x01\
           \0\0\0\n\0\0",
     ),
+    (
+        "events of a row in the first format",
+        b"\x01\x05\x01s\0\0\0\0\0\0\0\x02\0\0\0\x03\x01\x03\0\0\x03\xe8\0\0\0\0\0\0\0\0",
+        b"\x02\x05\x01s\0\0\0\0\0\0\0\x02\0\0\0\x03\x01\x03\0\0\x03\xe8\0\0\0\0\0\0\0\0",
+    ),
+    (
+        "a binding in the first format",
+        b"\x01\x06\x01s\0\0\0\0\xff\xff\xff\xff\0\0\x03\xe8",
+        b"\x02\x06\x01s\0\0\0\0\xff\xff\xff\xff\0\0\x03\xe8",
+    ),
+    (
+        "a signature in the first format",
+        b"\x01\x07\x01s\0\0\0d\x7f\xff\xff\xff\xff\xff\xff\xff\0\0\0:\xff\xf4A\x7f\0\0\0\x04Q. A\0\0\0\x08ap\
+          proved\0\0\0\x01\n",
+        b"\x02\x07\x01s\0\0\0d\x7f\xff\xff\xff\xff\xff\xff\xff\0\0\0:\xff\xf4A\x7f\0\0\0\x04Q. A\0\0\0\x08ap\
+          proved\0\0\0\x01\n",
+    ),
 ];
 
 /// Bytes that are no record, and why they are none.
-const OTHERS: [(&str, &[u8]); 54] = [
+const OTHERS: [(&str, &[u8]); 56] = [
     ("nothing", b""),
     ("its last byte is missing", b"\x02\x03\x01m\0\0\0"),
     ("a byte stands behind it", b"\x02\x03\x01m\0\0\0\x01\0"),
@@ -106,6 +129,10 @@ const OTHERS: [(&str, &[u8]); 54] = [
         "a byte stands behind a sequence",
         b"\x02\x04\x01s\0\0\0\0\0\0\0\0\x01m\0\0\0\x01\x01\x02b1\0\0\0\x01\x01X\x04\x01t\0\0\0\0\0\0\0\0\x01\
           \0\0\0\n\0\0\0",
+    ),
+    (
+        "a byte stands behind a trace in the first format",
+        b"\x01\x01\x04flat\0\0\0\0\0\x0fB@\0\0\0\x02\0\0\0\x07\0\0\0\x07\0",
     ),
     ("a format before the first", b"\0\x03\x01m\0\0\0\x01"),
     ("a format that is none yet", b"\x03\x03\x01m\0\0\0\x01"),
@@ -287,6 +314,11 @@ const OTHERS: [(&str, &[u8]); 54] = [
         "nobody who signs",
         b"\x02\x07\x01s\0\0\0d\x7f\xff\xff\xff\xff\xff\xff\xff\0\0\0:\xff\xf4A\x7f\0\0\0\0\0\0\0\x08approved\
           \0\0\0\x01\n",
+    ),
+    (
+        "65 bytes of who signs",
+        b"\x02\x07\x01s\0\0\0\x01\0\0\0\0\0\0\0\x01\0\0\0\0\0\0\0\0\0\0\0Annnnnnnnnnnnnnnn\
+          nnnnnnnnnnnnnnnnnnnnnnnnnnnnnnnnnnnnnnnnnnnnnnnnn\0\0\0\x01 \0\0\0\0",
     ),
     (
         "a meaning with a control character",
