@@ -25,7 +25,8 @@ unfolding IsStrictlySortedBy
 none_rise = tt
 
 -- there are as many names as amounts
-pub as_many_names : (most : ℕ) (amounts : List (List ℕ × ℤ)) → length amounts ≤ most → length (map (λ a. a.0) amounts) ≤ most
+pub as_many_names : (most : ℕ) (amounts : List (List ℕ × ℤ)) → length amounts ≤ most
+    → length (map (λ a. a.0) amounts) ≤ most
 as_many_names most amounts few = rw (length-map amounts (λ a. a.0)) few
 
 -- no names of amounts

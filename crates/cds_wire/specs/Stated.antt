@@ -1,6 +1,8 @@
--- What a request's body states, or its first refusal: each object's fields with their ranges, line by line in the order of judging.
+-- What a request's body states, or its first refusal: each object's fields with their ranges, line by line in the order
+-- of judging.
 -- The form of the bodies is this project's own.
-use Rattle.std.specs.Prelude.{◌≡◌, ℕ, ℤ, true, List, [], ◌∷◌, Option, Some, None, Result, Ok, ok_or, unwrap_or, codes, if◌then◌else◌}
+use Rattle.std.specs.Prelude.{◌≡◌, ℕ, ℤ, true, List, [], ◌∷◌, Option, Some, None, Result, Ok, ok_or, unwrap_or, codes}
+use Rattle.std.specs.Prelude.{if◌then◌else◌}
 use Rattle.std.specs.List.{list_any}
 use Rattle.std.specs.Str.{bytes_eq}
 use Rattle.cds_base.specs.Answers.{◌>>=◌, unless}
@@ -8,7 +10,8 @@ use Rattle.cds_base.specs.declared.event.Event.{Event}
 use Rattle.cds_fields.specs.Datum.{Datum, object_in, flag_in}
 use Rattle.cds_fields.specs.Event.{events_of}
 use Rattle.cds_fields.specs.Json.{json_value}
-use Rattle.cds_fields.specs.Section.{Section, Entry, has, required, optional, section, only, entries, optional_entries, entry_at, entry_section, stated_by, each, named}
+use Rattle.cds_fields.specs.Section.{Section, Entry, has, required, optional, section, only, entries, optional_entries}
+use Rattle.cds_fields.specs.Section.{entry_at, entry_section, stated_by, each, named}
 use Rattle.cds_fields.specs.Values.{number_in, signed_in, name_in, one_of}
 use Rattle.cds_base.specs.declared.event.TheConstants.{MOST_EVENTS}
 use Rattle.cds_sign.specs.Printed.{is_printed}
@@ -16,10 +19,12 @@ use Rattle.cds_sign.specs.Ranges.{IsWithin}
 use Rattle.cds_sign.specs.declared.asked.AskedRow.{AskedRow}
 use Rattle.cds_sign.specs.declared.command.Command.{Command}
 use Rattle.cds_sign.specs.declared.command.Command.TheVariants.{Sequence, Events, Rebind}
-use Rattle.cds_sign.specs.declared.limits.TheConstants.{MOST_ROWS, MOST_STANDARDS, MOST_AMOUNTS, MOST_VERSIONS, MOST_DILUTION, MOST_EDITION, MOST_BASIS}
+use Rattle.cds_sign.specs.declared.limits.TheConstants.{MOST_ROWS, MOST_STANDARDS, MOST_AMOUNTS, MOST_VERSIONS}
+use Rattle.cds_sign.specs.declared.limits.TheConstants.{MOST_DILUTION, MOST_EDITION, MOST_BASIS}
 use Rattle.cds_wire.specs.declared.error.BodyError.{BodyError}
 use Rattle.cds_wire.specs.declared.error.BodyError.TheVariants.{Json, Field}
-use Rattle.cds_wire.specs.declared.limits.TheConstants.{MOST_FREEZE_VERSION, MOST_SIGN_NUMBER, LEAST_ASKED_AMOUNT, MOST_ASKED_AMOUNT}
+use Rattle.cds_wire.specs.declared.limits.TheConstants.{MOST_FREEZE_VERSION, MOST_SIGN_NUMBER, LEAST_ASKED_AMOUNT}
+use Rattle.cds_wire.specs.declared.limits.TheConstants.{MOST_ASKED_AMOUNT}
 use Rattle.cds_wire.specs.declared.sign.SignBody.{SignBody}
 use Rattle.cds_wire.specs.Refusal.{body_refusals}
 use Rattle.cds_wire.specs.Values.{row_kinds, printed_in}
@@ -74,7 +79,8 @@ standards_of s = do
 -- the amounts of a row, none where the field is absent
 unfoldable pub amounts_of : Section BodyError → Result (List (List ℕ × ℤ)) BodyError
 amounts_of s =
-    if has (codes "amounts") s then named (signed_in LEAST_ASKED_AMOUNT MOST_ASKED_AMOUNT) MOST_AMOUNTS (codes "amounts") s else Ok []
+    if has (codes "amounts") s then named (signed_in LEAST_ASKED_AMOUNT MOST_ASKED_AMOUNT) MOST_AMOUNTS
+    (codes "amounts") s else Ok []
 
 -- the two parts of a dilution
 pub record Dilution : Type 0 where
@@ -101,7 +107,8 @@ row_events s = do
 -- the names of the fields of a row
 abbrev pub row_fields : List (List ℕ)
 row_fields =
-    codes "label" ∷ codes "kind" ∷ codes "trace" ∷ codes "version" ∷ codes "amounts" ∷ codes "used" ∷ codes "dilution" ∷ codes "events" ∷ []
+    codes "label" ∷ codes "kind" ∷ codes "trace" ∷ codes "version" ∷ codes "amounts" ∷ codes "used" ∷ codes "dilution"
+    ∷ codes "events" ∷ []
 
 -- a row; it is used where it does not say otherwise
 unfoldable pub row_of : Entry BodyError → Result AskedRow BodyError

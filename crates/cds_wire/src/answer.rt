@@ -25,8 +25,8 @@ pub enum Answer {
         edition: u64,
         unchanged: bool,
     },
-    /// The results of a sequence were signed: the basis and the number of the signature, when it was signed, as the date
-    /// of an HTTP message, and whether nothing changed.
+    /// The results of a sequence were signed: the basis and the number of the signature, when it was signed, as the
+    /// date of an HTTP message, and whether nothing changed.
     Sign {
         basis: u64,
         number: u32,

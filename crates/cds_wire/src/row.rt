@@ -113,7 +113,8 @@ fn amounts(section: &Section<Value, BodyError>) -> Result<AskedAmountList, BodyE
 /// The two parts of a row's dilution, 1 and 1 where the field is absent.
 #[tactic(auto, unfolding(crate::specs::Stated::dilution_of))]
 fn dilution(section: &Section<Value, BodyError>) -> Result<(u32, u32), BodyError>
-    ensures value { Gives NoMemory (λ parts. record { u = parts.0; v = parts.1 }) (dilution_of (seen section.now)) result }
+    ensures value { Gives NoMemory
+        (λ parts. record { u = parts.0; v = parts.1 }) (dilution_of (seen section.now)) result }
     ensures u { IfOk result (λ parts. IsWithin 1 MOST_DILUTION parts.0) }
     ensures v { IfOk result (λ parts. IsWithin 1 MOST_DILUTION parts.1) }
 {

@@ -22,8 +22,8 @@ use std::alloc::Global;
 /// The command to put the sequence of this name as the body states it, or the body's first refusal: Json where the body
 /// is no JSON in UTF-8, else Field with the path of the first field at fault. The fields are judged in this order, each
 /// with all that it holds: `edition`, 0 to 4,294,967,295; `method`, an object with a `name` and a `version` of 0 to
-/// 1,000; `standards`, 1 to 8 different names; `rows`, 1 to 200 of them; then the unknown ones. NoMemory says nothing of
-/// the body. The form of the body is this project's own.
+/// 1,000; `standards`, 1 to 8 different names; `rows`, 1 to 200 of them; then the unknown ones. NoMemory says nothing
+/// of the body. The form of the body is this project's own.
 #[tactic(auto, unfolding(crate::specs::Stated::body))]
 pub fn read_sequence(alloc: Global, name: Name, bytes: &[u8]) -> Result<Command, BodyError>
     ensures value { Gives NoMemory (λ command. command) (body (sequence_of name) bytes.now) result }

@@ -11,13 +11,16 @@ unfolding rows_of
 returns-in_err-row-clause-value c =
     let within = rw c.len-place-end.ensures at c.loop-place-test.true in
     let p = err_from_is_err_and c.from_residual-in_err-row.result c.from_residual-in_err-row.ensures.1 in
-    rw (p.1, p.2, c.in_ok-entries.ensures.value) (⊎_elim (λ h. inl (judged_err _ _ _ _ _ _ c.loop-place.invariant.judged within c.in_ok-entry.ensures.value h)) inr c.in_err-row.ensures.value)
+    rw (p.1, p.2, c.in_ok-entries.ensures.value)
+    (⊎_elim (λ h. inl (judged_err _ _ _ _ _ _ c.loop-place.invariant.judged within c.in_ok-entry.ensures.value h)) inr
+    c.in_err-row.ensures.value)
 
 pub loop-place-preserved : goal.loop-place-preserved
 loop-place-preserved c =
     let within = rw c.len-place-end.ensures at c.loop-place-test.true in
     rw c.in_ok-push.ensures.items (record {
-      judged = judged_more _ _ _ _ _ _ c.loop-place.invariant.judged within c.in_ok-entry.ensures.value c.in_ok-row.ensures.value;
+      judged = judged_more _ _ _ _ _ _ c.loop-place.invariant.judged within c.in_ok-entry.ensures.value
+          c.in_ok-row.ensures.value;
       each = All-push IsAskedRow _ _ c.loop-place.invariant.each c.in_ok-row.ensures.ranges;
     })
 

@@ -13,7 +13,9 @@ returns-in_err-standard-clause-value c =
     let within = rw c.len-place-end.ensures at c.loop-place-test.true in
     let p = err_from_is_err_and c.from_residual-in_err-standard.result c.from_residual-in_err-standard.ensures.1 in
     let refused = rw c.as_slice.ensures.value at c.in_err-standard.ensures.value in
-    rw (p.1, p.2, c.in_ok-entries.ensures.value) (⊎_elim (λ h. inl (judged_err _ _ _ _ _ _ c.loop-place.invariant.judged within c.in_ok-entry.ensures.value h)) inr refused)
+    rw (p.1, p.2, c.in_ok-entries.ensures.value)
+    (⊎_elim (λ h. inl (judged_err _ _ _ _ _ _ c.loop-place.invariant.judged within c.in_ok-entry.ensures.value h)) inr
+    refused)
 
 pub loop-place-init : goal.loop-place-init
 loop-place-init c = rw c.new-standards.ensures.items (record {
