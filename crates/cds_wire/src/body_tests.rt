@@ -42,8 +42,14 @@ events|edition|{"edition":4294967296,"events":[]}
 events|events|{"edition":1,"events":null}
 events|events|{"edition":1,"events":{}}
 events|events.1|{"edition":1,"events":[[]]}
+events|events.1.kind|{"edition":1,"events":[{"kind":"slopes"}]}
+events|events.1.at_ms|{"edition":1,"events":[{"kind":"slope","on":1,"off":1}]}
+events|events.1.on|{"edition":1,"events":[{"kind":"slope","at_ms":0,"on":0,"off":0}]}
+events|events.1.on|{"edition":1,"events":[{"kind":"slope","at_ms":0,"on":1000000001,"off":1}]}
 events|events.1.off|{"edition":1,"events":[{"kind":"slope","at_ms":0,"on":1}]}
-events|events.2.to_ms|{"edition":1,"events":[{"kind":"inhibit","from_ms":0,"to_ms":6000},{"kind":"valley","from_ms":5,"to_ms":5}]}
+events|events.1.from_ms|{"edition":1,"events":[{"kind":"inhibit","from_ms":"0","to_ms":1}]}
+events|events.2.to_ms|{"edition":1,"events":[{"kind":"drop","at_ms":0},{"kind":"valley","from_ms":5,"to_ms":5}]}
+events|events.1.on|{"edition":1,"events":[{"kind":"drop","at_ms":0,"on":1}]}
 events|row|{"edition":1,"events":[],"row":1}
 events|!|[
 events||7
@@ -78,11 +84,13 @@ sequence||null
 "#;
 
 // The body of a sequence with all that a row may say.
-const PUT: &str =
-    r#"{"edition":0,"method":{"name":"m","version":0},"standards":["b1","b2"],"rows":[{"label":"S1","kind":"standard","trace":"one","version":0,"amounts":{"caf":16}},{"label":"X1","kind":"sample","trace":"two","version":1000,"used":false,"dilution":[2,3],"events":[{"kind":"drop","at_ms":7},{"kind":"skim","from_ms":1,"to_ms":2}]}]}"#;
+const PUT: &str = r#"{"edition":0,"method":{"name":"m","version":0},"standards":["b1","b2"],
+"rows":[{"label":"S1","kind":"standard","trace":"one","version":0,"amounts":{"caf":16}},
+{"label":"X1","kind":"sample","trace":"two","version":1000,"used":false,"dilution":[2,3],
+"events":[{"kind":"drop","at_ms":7},{"kind":"skim","from_ms":1,"to_ms":2}]}]}"#;
 
-// A line for each change of it that is refused: the path of the field, or `!` where it is no JSON; a part of the body; and
-// what stands in its place.
+// A line for each change of it that is refused: the path of the field, or `!` where it is no JSON; a part of the body;
+// and what stands in its place.
 const PUT_REFUSALS: &str = r#"!|}]}]}|}]}]
 !|16|1e400
 edition|"edition":0,|
@@ -142,6 +150,8 @@ rows.2.events.1|"events":[|"events":[5,
 rows.2.events.1.kind|"kind":"drop",|
 rows.2.events.1.kind|"drop"|"Drop"
 rows.2.events.1.at_ms|"at_ms":7|"at_ms":14400001
+rows.2.events.1.on|"drop","at_ms":7|"slope","at_ms":7,"off":1
+rows.2.events.1.off|"drop","at_ms":7|"slope","at_ms":7,"on":1,"off":1000000001
 rows.2.events.1.to_ms|"at_ms":7|"at_ms":7,"to_ms":8
 rows.2.events.2.from_ms|"from_ms":1|"from_ms":14400001
 rows.2.events.2.to_ms|"to_ms":2|"to_ms":1
