@@ -16,10 +16,12 @@ use cds_trace::{MOST_SAMPLES, Trace, TraceError};
 use std::alloc::{AllocError, Global};
 
 /// The change whose record the bytes are, in the first format or in that of today. None exactly where the whole of the
-/// bytes is the record of no change: where they end too early or go on behind the last field, a number is outside its
-/// range, a name is none, a difference has a needless byte, the samples and the period are no trace or there are more
-/// than 100,000 of them in the first format, a sequence lists another one twice, the names of amounts don't rise, or a
-/// signature's name or meaning may be none. Whether tables accept the change isn't looked at. This project's own form.
+/// bytes is the record of no change: where they end too early or go on behind the last field, a format, a kind or a
+/// name is none, a number is outside its range or stands where a kind has none, a difference has a needless byte, the
+/// samples and the period are no trace or there are more than 100,000 of them in the first format, a sequence lists
+/// another one twice, the names of amounts don't rise, or who signs or what it means isn't 1 to 64 printed characters
+/// or spaces. Whether tables accept the change isn't looked at. The error is want of memory, which says nothing of the
+/// bytes. This project's own form.
 pub fn read(alloc: Global, bytes: &[u8]) -> Result<Option<Change>, AllocError>
     ensures { IfOk result (λ stated. Reads bytes.now stated) }
 {
@@ -27,7 +29,7 @@ pub fn read(alloc: Global, bytes: &[u8]) -> Result<Option<Change>, AllocError>
 }
 
 /// The record in today's format of the change that the bytes state. None exactly where they are the record of no
-/// change.
+/// change. The error is want of memory.
 pub fn convert(alloc: Global, bytes: &[u8]) -> Result<Option<Bytes>, AllocError>
     ensures { IfOk result (λ converted. Converts bytes.now converted) }
 {

@@ -16,7 +16,8 @@ use std::alloc::{AllocError, Global};
 
 /// The record of a change in format 2: the byte 2, the byte of its kind, the name of what is changed, and the fields of
 /// the kind, numbers with the high byte first; the samples of a trace stand as their differences. It needs a change
-/// whose parts are in their ranges. The record is at most 2^22 bytes longer than the text that the change carries.
+/// whose parts are in their ranges. The record is at most 2^22 bytes longer than the text that the change carries. The
+/// error is want of memory.
 pub fn write(alloc: Global, change: &Change) -> Result<Bytes, AllocError>
     requires { IsChange change.now }
     ensures value { IfOk result (λ bytes. bytes ≡ record_of change.now) }
