@@ -15,8 +15,7 @@ use Rattle.cds_sign.specs.declared.limits.TheConstants.{MOST_ROWS, MOST_VERSIONS
 use Rattle.cds_sign.specs.declared.limits.TheConstants.{MOST_SIGNATURES}
 use Rattle.cds_codec.specs.Record.{bytes_of_32, bytes_of_64, bytes_of_event, bytes_of_few, bytes_of_many, bytes_of_name}
 use Rattle.cds_codec.specs.Record.{bytes_of_row, bytes_of_text, changed, fields_of, kind_of, record_in, record_of}
-use Rattle.cds_codec.specs.Record.{IsFormat}
-use Rattle.cds_codec.specs.Record.{IsRecord, Reads, StandsIn}
+use Rattle.cds_codec.specs.Record.{IsFormat, IsRecord, Reads, StandsIn}
 use Rattle.cds_codec.specs.Reading.{Taken, both, through, bound_at, change_at, change_of, draft_at, edition_at}
 use Rattle.cds_codec.specs.Reading.{events_at, freeze_at, is_format, name_at, number_in, put_events_at, rebind_at}
 use Rattle.cds_codec.specs.Reading.{rows_at, sequence_at, sign_at, sign_front_at, standards_at, trace_at, whole}

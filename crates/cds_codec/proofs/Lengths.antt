@@ -19,9 +19,9 @@ use Rattle.cds_sign.specs.RowKinds.{kind_number}
 use Rattle.cds_sign.specs.declared.command.Change.{Change}
 use Rattle.cds_sign.specs.declared.command.Change.TheVariants as changes
 use Rattle.cds_sign.specs.declared.row.Row.{Row}
-use Rattle.cds_codec.specs.Record.{bytes_of_32, bytes_of_64, byte_of_used, bytes_of_amount}
-use Rattle.cds_codec.specs.Record.{bytes_of_event, bytes_of_few, bytes_of_many, bytes_of_name, bytes_of_row}
-use Rattle.cds_codec.specs.Record.{bytes_of_text, bytes_of_three, carried_text, changed, fields_of, record_of}
+use Rattle.cds_codec.specs.Record.{bytes_of_32, bytes_of_64, byte_of_used, bytes_of_amount, bytes_of_event}
+use Rattle.cds_codec.specs.Record.{bytes_of_few, bytes_of_many, bytes_of_name, bytes_of_row, bytes_of_text}
+use Rattle.cds_codec.specs.Record.{bytes_of_three, carried_text, changed, fields_of, record_of}
 use Rattle.cds_codec.specs.declared.format.TheConstants.{FORMAT}
 use Rattle.cds_trace.specs.Differences.{folded, bytes_behind, bytes_of_differences}
 use Rattle.cds_trace.specs.SevenBits.{seven_bits, seven_bits_within}

@@ -1,11 +1,12 @@
 -- Events, amounts and rows are read as they are written.
 use Rattle.std.proofs.Common.{◌≡◌, ◌∙◌, ℕ, ◌^◌, ◌<◌, Bool, true, false, cond, List, [], ◌∷◌, ◌++◌, length, Option, Some}
-use Rattle.std.proofs.Common.{None, refl, sym, ap, subst, append_assoc, arith, inl, inr}
-use Rattle.std.specs.Prelude.{All, ◌⊎◌, ⊤, ◌&&◌, ◌==◌, not, map}
+use Rattle.std.proofs.Common.{refl, sym, ap, subst, append_assoc, arith, eq-eqb, find, inl, inr}
+use Rattle.std.specs.Prelude.{All, ◌⊎◌, ⊤, ◌==◌, map}
 use Rattle.std.proofs.lemmas.Bool.{eqb-true}
 use Rattle.std.proofs.lemmas.Bool.Decides.{nat_tests}
 use Rattle.std.proofs.lemmas.List.{length-map}
 use Rattle.std.proofs.lemmas.List.Elements.{All-map, All-weaker}
+use Rattle.cds_base.specs.EventParts.{event_parts}
 use Rattle.cds_base.specs.EventRange.{EventRanges, is_event}
 use Rattle.cds_base.specs.NameText.{IsName}
 use Rattle.cds_base.specs.declared.event.Event.{Event}
@@ -19,15 +20,15 @@ use Rattle.cds_sign.specs.declared.limits.TheConstants.{MOST_DILUTION}
 use Rattle.cds_sign.specs.declared.row.Row.{Row}
 use Rattle.cds_sign.specs.declared.row.RowKind.{RowKind}
 use Rattle.cds_sign.specs.declared.row.RowKind.TheVariants as kinds
-use Rattle.cds_codec.specs.Record.{bytes_of_32, byte_of_used, bytes_of_amount, bytes_of_event}
-use Rattle.cds_codec.specs.Record.{bytes_of_few, bytes_of_many, bytes_of_name, bytes_of_row, bytes_of_three}
+use Rattle.cds_codec.specs.Record.{bytes_of_32, byte_of_used, bytes_of_amount, bytes_of_event, bytes_of_few}
+use Rattle.cds_codec.specs.Record.{bytes_of_many, bytes_of_name, bytes_of_row, bytes_of_three}
 use Rattle.cds_codec.specs.Reading.{amount_at, amounts_at, are_different, are_rising, event_at, event_of, events_at}
-use Rattle.cds_codec.specs.Reading.{passing, ranged_event_of, row_at, row_front_at, row_kind_at, row_kind_of, row_of}
-use Rattle.cds_codec.specs.Reading.{rows_at, standards_at, used_at, used_of}
+use Rattle.cds_codec.specs.Reading.{has_parts, events_with, passing, ranged_event_of, row_at, row_front_at, row_kind_at}
+use Rattle.cds_codec.specs.Reading.{row_kind_of, row_kinds, row_of, rows_at, standards_at, used_at, used_of}
 use Rattle.cds_codec.specs.declared.rows.RowFront.{RowFront}
-use Rattle.cds_codec.proofs.FieldLaws.{some_is, then_some, passed_some, refused_some, IsField, IsField-both}
-use Rattle.cds_codec.proofs.FieldLaws.{IsField-through, IsField-as, IsField-passing, IsField-counted, IsField-items}
-use Rattle.cds_codec.proofs.FieldLaws.{IsField-byte, IsField-32, IsField-32_in, IsField-few, IsField-name}
+use Rattle.cds_codec.proofs.FieldLaws.{some_is, then_some, passed_some, IsField, IsField-both, IsField-through}
+use Rattle.cds_codec.proofs.FieldLaws.{IsField-as, IsField-passing, IsField-counted, IsField-items, IsField-byte}
+use Rattle.cds_codec.proofs.FieldLaws.{IsField-32, IsField-32_in, IsField-few, IsField-name}
 use Rattle.cds_codec.proofs.Lengths.{names-amounts}
 use Rattle.cds_codec.proofs.PairLaws.{both_passed, rising_passed, rising_pass, different_passed, different_pass}
 
@@ -37,21 +38,19 @@ chosen : {A : Type 0} (b : Bool) (x : A) (o : Option A) (y : A) → cond b (Some
 chosen true x o y e = inl (refl, some_is x y e)
 chosen false x o y e = inr e
 
+-- what is found passes the test
+find_passes : {A : Type 0} (test : A → Bool) (xs : List A) (x : A) → find test xs ≡ Some x → test x ≡ true
+find_passes test [] x e = absurd cc
+find_passes test (y ∷ ys) x e = elim (chosen (test y) y (find test ys) x e) [
+  | inl p ↦ rw (← p.1) p.0
+  | inr e ↦ find_passes test ys x e
+]
+
 -- a kind of rows
 kind_stated : (byte : ℕ) (kind : RowKind) → row_kind_of byte ≡ Some kind → byte ∷ [] ≡ kind_number kind ∷ []
-kind_stated byte kind e = elim (chosen (byte == 1) kinds.Blank _ kind e) [
-  | inl p ↦ rw (← p.1, eqb-true _ _ p.0) refl
-  | inr e ↦ elim (chosen (byte == 2) kinds.Standard _ kind e) [
-    | inl p ↦ rw (← p.1, eqb-true _ _ p.0) refl
-    | inr e ↦ elim (chosen (byte == 3) kinds.Replicate _ kind e) [
-      | inl p ↦ rw (← p.1, eqb-true _ _ p.0) refl
-      | inr e ↦ elim (chosen (byte == 4) kinds.Sample _ kind e) [
-        | inl p ↦ rw (← p.1, eqb-true _ _ p.0) refl
-        | inr e ↦ absurd cc
-      ]
-    ]
-  ]
-]
+kind_stated byte kind e =
+    let is = eqb-true (kind_number kind) byte (find_passes (λ kind. kind_number kind == byte) row_kinds kind e) in
+    ap (λ (n : ℕ). n ∷ []) (sym is)
 
 IsField-kind : IsField row_kind_at (λ kind. kind_number kind ∷ []) (λ kind. ⊤)
 unfolding row_kind_at
@@ -88,50 +87,19 @@ IsField-used = IsField-through IsField-byte used_of (λ used. byte_of_used used 
 -- an event of a kind and three numbers
 event_stated : (kind a b c : ℕ) (event : Event) → event_of kind a b c ≡ Some event
     → kind ∷ (bytes_of_32 a ++ (bytes_of_32 b ++ bytes_of_32 c)) ≡ bytes_of_event event
-event_stated kind a b c event e = elim (chosen (kind == 5) (timed.Slope a b c) _ event e) [
-  | inl p ↦ rw (← p.1, eqb-true _ _ p.0) (regrouped 5 a b c)
-  | inr e ↦
-      let zero_is = refused_some (not (c == 0)) _ event e in
-      let none : c ≡ 0 = eqb-true _ _ (not-not zero_is.0) in
-      rw none (rest zero_is.1)
-]
-  where
-    regrouped : (k a b c : ℕ) → k ∷ (bytes_of_32 a ++ (bytes_of_32 b ++ bytes_of_32 c)) ≡ k ∷ bytes_of_three a b c
-    regrouped k a b c = ap (λ (t : List ℕ). k ∷ t) (sym (append_assoc (bytes_of_32 a) (bytes_of_32 b) (bytes_of_32 c)))
-
-    not-not : {b : Bool} → not b ≡ false → b ≡ true
-    not-not {b} h = by b h
-      where
-        by : (b : Bool) → not b ≡ false → b ≡ true
-        by true h = refl
-        by false h = absurd cc
-
-    rest : cond (kind == 1) (Some (timed.Inhibit a b))
-        (cond (kind == 2) (Some (timed.Valley a b))
-        (cond (kind == 4) (Some (timed.Baseline a b))
-        (cond (kind == 6) (Some (timed.Skim a b)) (cond ((kind == 3) && (b == 0)) (Some (timed.Drop a)) None))))
-        ≡ Some event
-        → kind ∷ (bytes_of_32 a ++ (bytes_of_32 b ++ bytes_of_32 0)) ≡ bytes_of_event event
-    rest e = elim (chosen (kind == 1) (timed.Inhibit a b) _ event e) [
-      | inl p ↦ rw (← p.1, eqb-true _ _ p.0) (regrouped 1 a b 0)
-      | inr e ↦ elim (chosen (kind == 2) (timed.Valley a b) _ event e) [
-        | inl p ↦ rw (← p.1, eqb-true _ _ p.0) (regrouped 2 a b 0)
-        | inr e ↦ elim (chosen (kind == 4) (timed.Baseline a b) _ event e) [
-          | inl p ↦ rw (← p.1, eqb-true _ _ p.0) (regrouped 4 a b 0)
-          | inr e ↦ elim (chosen (kind == 6) (timed.Skim a b) _ event e) [
-            | inl p ↦ rw (← p.1, eqb-true _ _ p.0) (regrouped 6 a b 0)
-            | inr e ↦ elim (chosen ((kind == 3) && (b == 0)) (timed.Drop a) None event e) [
-              | inl p ↦
-                  let t = both_passed (kind == 3) (b == 0) p.0 in
-                  let kind_is : kind ≡ 3 = eqb-true _ _ t.0 in
-                  let b_is : b ≡ 0 = eqb-true _ _ t.1 in
-                  rw (← p.1, kind_is, b_is) (regrouped 3 a 0 0)
-              | inr e ↦ absurd cc
-            ]
-          ]
-        ]
-      ]
-    ]
+event_stated kind a b c event e =
+    let parts = event_parts event in
+    let found = find_passes (has_parts kind a b c) (events_with a b c) event e in
+    let kind_is = both_passed (parts.kind == kind) _ found in
+    let first_is = both_passed (parts.first == a) _ kind_is.1 in
+    let others_are = both_passed (parts.second == b) (parts.third == c) first_is.1 in
+    rw (
+      ← eqb-true parts.kind kind kind_is.0,
+      ← eqb-true parts.first a first_is.0,
+      ← eqb-true parts.second b others_are.0,
+      ← eqb-true parts.third c others_are.1,
+      append_assoc,
+    ) refl
 
 -- what a kind and three numbers must be
 abbrev AreNumbers : ℕ × (ℕ × (ℕ × ℕ)) → Type 0
@@ -172,22 +140,23 @@ IsField-event = IsField-through
         × (bytes_of_event event ≡ spelled_numbers x)
     back (timed.Inhibit from to) h =
         numbers 1 from to 0 (timed.Inhibit from to) (omega arith) (grind (arith, nat_tests, h))
-        (grind (arith, nat_tests, h)) (omega arith) (rw h refl) refl
+        (grind (arith, nat_tests, h)) (omega arith) (rw (eq-eqb from from refl, eq-eqb to to refl, h) refl) refl
     back (timed.Valley from to) h =
         numbers 2 from to 0 (timed.Valley from to) (omega arith) (grind (arith, nat_tests, h))
-        (grind (arith, nat_tests, h)) (omega arith) (rw h refl) refl
+        (grind (arith, nat_tests, h)) (omega arith) (rw (eq-eqb from from refl, eq-eqb to to refl, h) refl) refl
     back (timed.Drop at) h =
         numbers 3 at 0 0 (timed.Drop at) (omega arith) (grind (arith, nat_tests, h)) (omega arith) (omega arith)
-        (rw h refl) refl
+        (rw (eq-eqb at at refl, h) refl) refl
     back (timed.Baseline from to) h =
         numbers 4 from to 0 (timed.Baseline from to) (omega arith) (grind (arith, nat_tests, h))
-        (grind (arith, nat_tests, h)) (omega arith) (rw h refl) refl
+        (grind (arith, nat_tests, h)) (omega arith) (rw (eq-eqb from from refl, eq-eqb to to refl, h) refl) refl
     back (timed.Slope at on off) h =
         numbers 5 at on off (timed.Slope at on off) (omega arith) (grind (arith, nat_tests, h))
-        (grind (arith, nat_tests, h)) (grind (arith, nat_tests, h)) (rw h refl) refl
+        (grind (arith, nat_tests, h)) (grind (arith, nat_tests, h))
+        (rw (eq-eqb at at refl, eq-eqb on on refl, eq-eqb off off refl, h) refl) refl
     back (timed.Skim from to) h =
         numbers 6 from to 0 (timed.Skim from to) (omega arith) (grind (arith, nat_tests, h))
-        (grind (arith, nat_tests, h)) (omega arith) (rw h refl) refl
+        (grind (arith, nat_tests, h)) (omega arith) (rw (eq-eqb from from refl, eq-eqb to to refl, h) refl) refl
 
 pub IsField-events : IsField events_at (bytes_of_few bytes_of_event) EventRanges
 unfolding events_at

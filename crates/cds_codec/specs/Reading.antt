@@ -5,9 +5,10 @@ use Rattle.std.specs.Prelude.{ℕ, zero, suc, ◌+◌, ◌-◌, ◌*◌, ◌/◌
 use Rattle.std.specs.Prelude.{ℤ, pos, negsuc, ◌+ℤ◌, List, [], ◌∷◌, ◌++◌, length, take, drop, Option, Some, None, Result}
 use Rattle.std.specs.Prelude.{Ok, Err, if◌then◌else◌}
 use Rattle.std.specs.Int.{Width, w32, w64, byte_len, from_be_bytes, cast_signed}
-use Rattle.std.specs.List.{list_all}
+use Rattle.std.specs.List.{find, list_all}
 use Rattle.std.specs.Ordering.{is_lt}
 use Rattle.std.specs.Str.{bytes_eq}
+use Rattle.cds_base.specs.EventParts.{event_parts}
 use Rattle.cds_base.specs.EventRange.{is_event}
 use Rattle.cds_base.specs.NameText.{name_of}
 use Rattle.cds_base.specs.Named.{byte_cmp}
@@ -21,6 +22,7 @@ use Rattle.cds_trace.specs.TraceText.{is_sample}
 use Rattle.cds_trace.specs.declared.differences.TheConstants.{SEVEN_BITS}
 use Rattle.cds_trace.specs.declared.error.TraceError.{TraceError}
 use Rattle.cds_sign.specs.Printed.{is_printed}
+use Rattle.cds_sign.specs.RowKinds.{kind_number}
 use Rattle.cds_sign.specs.declared.command.Change.{Change}
 use Rattle.cds_sign.specs.declared.command.Change.TheVariants as changes
 use Rattle.cds_base.specs.declared.limits.TheConstants.{MOST_AMOUNT}
@@ -203,17 +205,20 @@ are_different names = in_pairs is_other names
 unfoldable pub amounts_at : List ℕ → Taken (List (List ℕ × ℕ))
 amounts_at bytes = through (passing are_rising) (counted (byte_in 0 MOST_AMOUNTS) (items_at amount_at)) bytes
 
+-- an event is of this kind and has these three numbers
+abbrev pub has_parts : ℕ → ℕ → ℕ → ℕ → Event → Bool
+has_parts kind a b c event =
+    ((event_parts event).kind == kind)
+    && (((event_parts event).first == a) && (((event_parts event).second == b) && ((event_parts event).third == c)))
+
+-- an event of each kind with as many of these numbers as it has
+abbrev pub events_with : ℕ → ℕ → ℕ → List Event
+events_with a b c =
+    timed.Inhibit a b ∷ timed.Valley a b ∷ timed.Drop a ∷ timed.Baseline a b ∷ timed.Slope a b c ∷ timed.Skim a b ∷ []
+
 -- the event of a kind and three numbers, where there is one
 abbrev pub event_of : ℕ → ℕ → ℕ → ℕ → Option Event
-event_of kind a b c =
-    if kind == 5 then Some (timed.Slope a b c)
-    else if not (c == 0) then None
-    else if kind == 1 then Some (timed.Inhibit a b)
-    else if kind == 2 then Some (timed.Valley a b)
-    else if kind == 4 then Some (timed.Baseline a b)
-    else if kind == 6 then Some (timed.Skim a b)
-    else if (kind == 3) && (b == 0) then Some (timed.Drop a)
-    else None
+event_of kind a b c = find (has_parts kind a b c) (events_with a b c)
 
 -- the event in its ranges of a kind and three numbers, where there is one
 abbrev pub ranged_event_of : ℕ × (ℕ × (ℕ × ℕ)) → Option Event
@@ -231,14 +236,13 @@ event_at bytes = through ranged_event_of kind_and_three_at bytes
 unfoldable pub events_at : List ℕ → Taken (List Event)
 events_at bytes = counted (byte_in 0 MOST_EVENTS) (items_at event_at) bytes
 
--- what a row is injected for, by its byte
+-- the kinds of rows
+abbrev pub row_kinds : List RowKind
+row_kinds = kinds.Blank ∷ kinds.Standard ∷ kinds.Replicate ∷ kinds.Sample ∷ []
+
+-- what a row is injected for, by its number
 abbrev pub row_kind_of : ℕ → Option RowKind
-row_kind_of byte =
-    if byte == 1 then Some kinds.Blank
-    else if byte == 2 then Some kinds.Standard
-    else if byte == 3 then Some kinds.Replicate
-    else if byte == 4 then Some kinds.Sample
-    else None
+row_kind_of byte = find (λ kind. kind_number kind == byte) row_kinds
 
 -- whether a row is used, by its byte
 abbrev pub used_of : ℕ → Option Bool

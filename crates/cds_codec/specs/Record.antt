@@ -14,8 +14,8 @@ use Rattle.cds_sign.specs.RowKinds.{kind_number}
 use Rattle.cds_sign.specs.declared.command.Change.{Change}
 use Rattle.cds_sign.specs.declared.command.Change.TheVariants as changes
 use Rattle.cds_sign.specs.declared.row.Row.{Row}
-use Rattle.cds_codec.specs.declared.format.TheConstants.{FIRST_FORMAT, FORMAT, MOST_FIRST_SAMPLES}
-use Rattle.cds_codec.specs.declared.format.TheConstants.{TRACE, DRAFT, FREEZE, SEQUENCE, EVENTS, REBIND, SIGN}
+use Rattle.cds_codec.specs.declared.format.TheConstants.{FIRST_FORMAT, FORMAT, MOST_FIRST_SAMPLES, TRACE, DRAFT, FREEZE}
+use Rattle.cds_codec.specs.declared.format.TheConstants.{SEQUENCE, EVENTS, REBIND, SIGN}
 
 -- a number in 32 bits, the high byte first
 unfoldable pub bytes_of_32 : ℕ → List ℕ
