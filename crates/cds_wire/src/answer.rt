@@ -1,3 +1,4 @@
+//! What a request is answered in JSON, before it is written as text.
 use cds_base::Text;
 
 /// What a request is answered in JSON.

@@ -9,7 +9,7 @@ use cds_base::Bytes;
 use serde_json::{Value, json};
 use std::alloc::{AllocError, Global};
 
-/// The text of a reply: its object in compact JSON, with the keys in byte order.
+/// The text of a reply: its object in compact JSON, with the keys in byte order. The error is want of memory.
 pub fn reply(alloc: Global, answer: &Answer) -> Result<Bytes, AllocError>
     ensures { IfOk result (λ text. text ≡ reply_text answer.now) }
 {
