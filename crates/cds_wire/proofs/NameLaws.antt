@@ -1,12 +1,11 @@
 -- Names of amounts and of listed sequences: none of them, and one more.
-use Rattle.std.proofs.Common.{arith, ◌≡◌, ℕ, ℤ, ◌≤◌, List, [], ◌∷◌, ◌++◌, All, length, map, false}
+use Rattle.std.proofs.Common.{arith, ◌≡◌, ℕ, ℤ, ◌≤◌, List, [], ◌∷◌, ◌++◌, length, map, false}
 use Rattle.std.proofs.lemmas.List.{length-map}
 use Rattle.std.proofs.lemmas.Cmp.{nat_list_eq_equiv}
 use Rattle.std.proofs.lemmas.Map.Keys.{IsDistinct-push}
 use Rattle.std.specs.List.{IsDistinct, list_any}
 use Rattle.std.specs.List.Sorted.{IsStrictlySortedBy}
 use Rattle.std.specs.Str.{bytes_eq}
-use Rattle.cds_base.specs.NameText.{IsName}
 use Rattle.cds_base.specs.Named.{AreRising}
 use Rattle.cds_sign.specs.Ranges.{AreAmountNames}
 

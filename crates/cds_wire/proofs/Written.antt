@@ -1,25 +1,12 @@
 -- The texts of replies.
-use Rattle.std.proofs.Common.{◌≡◌, ℕ, ◌≤◌, ◌++◌, ◌∷◌, [], List, true, false, refl, ap, ◌∙◌, codes, decimal}
+use Rattle.std.proofs.Common.{◌≡◌, ℕ, ◌≤◌, ◌++◌, ◌∷◌, [], List, true, refl, ap, ◌∙◌, codes, decimal}
 use Rattle.std.proofs.Common.{append_assoc, arith}
 use Rattle.std.proofs.lemmas.Bool.{ne_eqb, le-ltb, leb-true, and_parts}
 use Rattle.json.proofs.OnLiterals.{json_on_literals}
 use Rattle.json.specs.Print.{escape, escape_byte}
-use Rattle.serde_json.specs.Data.{object}
-use Rattle.serde_json.specs.Written.{has_float}
-use Rattle.cds_wire.specs.declared.answer.Answer.{Answer}
-use Rattle.cds_wire.specs.declared.answer.Answer.TheVariants.{Trace, Draft, Freeze, Sequence, Sign, Refusal}
-use Rattle.cds_wire.specs.declared.answer.Shown.TheVariants.{Number, Word}
-use Rattle.cds_wire.specs.Reply.{fields_of, reply_text, is_plain_word}
-
--- no reply has a number with a fraction
-pub has_float-fields_of : (answer : Answer) → has_float (object (fields_of answer)) ≡ false
-has_float-fields_of (Trace samples unchanged version) = refl
-has_float-fields_of (Draft unchanged) = refl
-has_float-fields_of (Freeze unchanged version) = refl
-has_float-fields_of (Sequence basis edition unchanged) = refl
-has_float-fields_of (Sign basis n signed unchanged) = refl
-has_float-fields_of (Refusal error n (Number v)) = refl
-has_float-fields_of (Refusal error n (Word w)) = refl
+use Rattle.cds_wire.specs.declared.answer.Answer.TheVariants.{Refusal}
+use Rattle.cds_wire.specs.declared.answer.Shown.TheVariants.{Number}
+use Rattle.cds_wire.specs.Reply.{reply_text, is_plain_word}
 
 -- a letter stands for itself
 escape_byte-letter : (x : ℕ) → 97 ≤ x → escape_byte x ≡ x ∷ []

@@ -1,7 +1,6 @@
 -- What a request's body states, or its first refusal: each object's fields with their ranges, line by line in the order
--- of judging.
--- The form of the bodies is this project's own.
-use Rattle.std.specs.Prelude.{◌≡◌, ℕ, ℤ, true, List, [], ◌∷◌, Option, Some, None, Result, Ok, ok_or, unwrap_or, codes}
+-- of judging. The form of the bodies is this project's own.
+use Rattle.std.specs.Prelude.{◌≡◌, ℕ, ℤ, true, List, [], ◌∷◌, Some, None, Result, Ok, ok_or, unwrap_or, codes}
 use Rattle.std.specs.Prelude.{if◌then◌else◌}
 use Rattle.std.specs.List.{list_any}
 use Rattle.std.specs.Str.{bytes_eq}
