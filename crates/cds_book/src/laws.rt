@@ -1,5 +1,5 @@
 //! Laws of the tables. Each is proved by its contract, and its body does nothing.
-ghost use Rattle.std.specs.Prelude.{option_map, if◌then◌else◌, ◌≤◌, ◌≡◌, ◌≢◌, ℕ, ◌+◌, List, [], ◌∷◌, Ok, Some, None, unwrap_or};
+ghost use Rattle.std.specs.Prelude.{option_map, if◌then◌else◌, ◌≤◌, ◌≡◌, ◌≢◌, ℕ, ◌+◌, List, [], ◌∷◌, Ok, Some, None, unwrap_or, Decides};
 ghost use Rattle.cds_trace.specs.Signal.{Signal};
 ghost use Rattle.cds_book.specs.Kept.{IsTables};
 ghost use Rattle.cds_book.specs.Plan.{planned, applied, carried, command_of, trace_changed, method_changed, Accepts};
@@ -8,6 +8,8 @@ ghost use Rattle.cds_book.specs.Judged.{edition_of, sign_judged, standards_judge
 ghost use Rattle.cds_sign.specs.Ranges.{IsChange};
 ghost use Rattle.cds_book.specs.declared.command.SignPlan.TheVariants as sign;
 ghost use Rattle.cds_book.specs.Tables.{TablesState, signals_of, texts_of, trace_of, trace_versions_of, draft_of, method_of, method_versions_of, sequence_of, signed_of};
+ghost use Rattle.cds_book.specs.Same.{same_inputs};
+ghost use Rattle.cds_sign.specs.declared.inputs.Inputs.{Inputs as InputsSeen};
 ghost use Rattle.cds_sign.specs.declared.row.Row.{Row as RowSeen};
 ghost use Rattle.cds_sign.specs.declared.sequence.Sequence.{Sequence as SequenceSeen};
 ghost use Rattle.cds_sign.specs.declared.signed.Signed.{Signed as SignedSeen};
@@ -98,6 +100,11 @@ pub fn a_put_sequence_is_read_back()
 pub fn an_accepted_change_raises_the_edition()
     ensures { (tables : TablesState) (c : Changed) (name : List ℕ) → IsTables tables → Accepts tables c → sequence_changed c ≡ Some name
         → edition_of (applied tables c) name ≡ edition_of tables name + 1 }
+{}
+
+/// The test of inputs tells exactly whether they are equal.
+pub fn equal_inputs_are_told()
+    ensures { (a b : InputsSeen) → Decides (same_inputs a b) (a ≡ b) }
 {}
 
 /// Whatever is changed, the basis of a sequence that was there rises by one exactly where its inputs are then others.
