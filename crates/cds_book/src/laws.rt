@@ -1,5 +1,5 @@
 //! Laws of the tables. Each is proved by its contract, and its body does nothing.
-ghost use Rattle.std.specs.Prelude.{option_map, if◌then◌else◌, ◌≤◌, ◌≡◌, ◌≢◌, ℕ, ◌+◌, List, [], ◌∷◌, Ok, Some, None, unwrap_or, Decides};
+ghost use Rattle.std.specs.Prelude.{option_map, if◌then◌else◌, ◌≤◌, ◌≡◌, ◌≢◌, ℕ, ◌+◌, List, [], ◌∷◌, Ok, Some, None, unwrap_or, Decides, false};
 ghost use Rattle.cds_trace.specs.Signal.{Signal};
 ghost use Rattle.cds_book.specs.Kept.{IsTables};
 ghost use Rattle.cds_book.specs.Plan.{planned, applied, carried, command_of, trace_changed, method_changed, Accepts};
@@ -8,6 +8,8 @@ ghost use Rattle.cds_book.specs.Judged.{edition_of, sign_judged, standards_judge
 ghost use Rattle.cds_sign.specs.Ranges.{IsChange};
 ghost use Rattle.cds_book.specs.declared.command.SignPlan.TheVariants as sign;
 ghost use Rattle.cds_book.specs.Tables.{TablesState, signals_of, texts_of, trace_of, trace_versions_of, draft_of, method_of, method_versions_of, sequence_of, signed_of};
+ghost use Rattle.cds_book.specs.Inputs.{inputs_of};
+ghost use Rattle.cds_book.specs.Reach.{is_reached};
 ghost use Rattle.cds_book.specs.Same.{same_inputs};
 ghost use Rattle.cds_sign.specs.declared.inputs.Inputs.{Inputs as InputsSeen};
 ghost use Rattle.cds_sign.specs.declared.row.Row.{Row as RowSeen};
@@ -112,6 +114,12 @@ pub fn a_basis_rises_where_inputs_differ()
     ensures { (tables : TablesState) (c : Changed) (name : List ℕ) (s : SequenceSeen) → sequence_of tables name ≡ Some s
         → option_map (λ (x : SequenceSeen). x.basis) (sequence_of (applied tables c) name)
         ≡ Some (s.basis + (if inputs_differ tables (applied tables c) name then 1 else 0)) }
+{}
+
+/// A change leaves the inputs of each sequence that it doesn't reach.
+pub fn unreached_inputs_stay()
+    ensures { (tables : TablesState) (c : Changed) (name : List ℕ) → is_reached tables c name ≡ false
+        → inputs_of (applied tables c) name ≡ inputs_of tables name }
 {}
 
 /// A change leaves each sequence that it doesn't change, with its edition and its content: only its basis may rise.
