@@ -23,7 +23,9 @@ ghost use Rattle.cds_book.specs.declared.limits.TheConstants.{MOST_TRACE_NAMES, 
 ghost use Rattle.cds_book.specs.declared.limits.TheConstants.{MOST_SEQUENCES, MOST_ROWS_IN_ALL, MOST_SIGNED_BYTES};
 ghost use Rattle.cds_sign.specs.declared.limits.TheConstants.{MOST_VERSIONS, MOST_SIGNATURES};
 
-/// An accepted change keeps all rules of the tables.
+/// An accepted change keeps all rules of the tables: names rise in byte order and are names, traces are traces and
+/// texts methods, each version differs from the one before it, the parts of rows and signatures are in their ranges,
+/// what sequences bind and list is there, and no count passes its limit.
 pub fn rules_are_kept()
     ensures { (tables : TablesState) (c : Changed) → IsTables tables → Accepts tables c → IsTables (applied tables c) }
 {}
@@ -37,13 +39,15 @@ pub fn a_repeated_change_changes_nothing()
 /// A trace is put as the next version of its name.
 pub fn a_trace_is_the_next_version()
     ensures { (tables : TablesState) (name : List ℕ) (signal : Signal)
-        → trace_versions_of (applied tables (change.Trace name signal)) name ≡ Some (unwrap_or (trace_versions_of tables name) 0 + 1) }
+        → trace_versions_of (applied tables (change.Trace name signal)) name
+        ≡ Some (unwrap_or (trace_versions_of tables name) 0 + 1) }
 {}
 
 /// A draft is frozen as the version of the number that was named.
 pub fn a_freeze_makes_the_version_named()
     ensures { (tables : TablesState) (name : List ℕ) (version : ℕ)
-        → Accepts tables (change.Freeze name version) → method_versions_of (applied tables (change.Freeze name version)) name ≡ Some version }
+        → Accepts tables (change.Freeze name version)
+        → method_versions_of (applied tables (change.Freeze name version)) name ≡ Some version }
 {}
 
 /// Whatever is changed, each version of a trace stays what it was.
@@ -61,18 +65,21 @@ pub fn method_versions_stay()
 /// A trace that was put is read back under the next number of its name.
 pub fn a_trace_is_read_back()
     ensures { (tables : TablesState) (name : List ℕ) (signal : Signal)
-        → trace_of (applied tables (change.Trace name signal)) name (unwrap_or (trace_versions_of tables name) 0 + 1) ≡ Some signal }
+        → trace_of (applied tables (change.Trace name signal)) name (unwrap_or (trace_versions_of tables name) 0 + 1)
+        ≡ Some signal }
 {}
 
-/// A draft that was put is read back.
+/// A draft that was put is read back, whether there was a draft before or not.
 pub fn a_draft_is_read_back()
-    ensures { (tables : TablesState) (name text : List ℕ) → draft_of (applied tables (change.Draft name text)) name ≡ Some text }
+    ensures { (tables : TablesState) (name text : List ℕ)
+        → draft_of (applied tables (change.Draft name text)) name ≡ Some text }
 {}
 
 /// A draft that was frozen is read back under the number that was named.
 pub fn a_frozen_version_is_the_draft()
     ensures { (tables : TablesState) (name : List ℕ) (version : ℕ)
-        → Accepts tables (change.Freeze name version) → method_of (applied tables (change.Freeze name version)) name version ≡ draft_of tables name }
+        → Accepts tables (change.Freeze name version)
+        → method_of (applied tables (change.Freeze name version)) name version ≡ draft_of tables name }
 {}
 
 /// A change leaves the versions of each trace that it doesn't change: a trace that is put leaves the traces of other
@@ -86,22 +93,25 @@ pub fn other_traces_stay()
 /// methods of other names, and a trace leaves all.
 pub fn other_methods_stay()
     ensures { (tables : TablesState) (c : Changed) (name : List ℕ) → Some name ≢ method_changed c
-        → (draft_of (applied tables c) name ≡ draft_of tables name) × (texts_of (applied tables c) name ≡ texts_of tables name) }
+        → (draft_of (applied tables c) name ≡ draft_of tables name)
+        × (texts_of (applied tables c) name ≡ texts_of tables name) }
 {}
 
 /// A sequence that was put is read back with the next edition, and with a basis that is one more than before exactly
 /// where its inputs are others.
 pub fn a_put_sequence_is_read_back()
-    ensures { (tables : TablesState) (name : List ℕ) (edition : ℕ) (method : List ℕ) (version : ℕ) (standards : List (List ℕ)) (rows : List RowSeen)
-        → sequence_of (applied tables (change.Sequence name edition method version standards rows)) name
+    ensures { (tables : TablesState) (name : List ℕ) (edition : ℕ) (method : List ℕ) (version : ℕ)
+        (standards : List (List ℕ)) (rows : List RowSeen)
+        → let put = change.Sequence name edition method version standards rows in
+        sequence_of (applied tables put) name
         ≡ Some (record (sequence_put tables name method version standards rows)
-        { basis = basis_of tables name + (if inputs_differ tables (carried tables (change.Sequence name edition method version standards rows)) name then 1 else 0) }) }
+        { basis = basis_of tables name + (if inputs_differ tables (carried tables put) name then 1 else 0) }) }
 {}
 
 /// An accepted change of a sequence raises its edition by one.
 pub fn an_accepted_change_raises_the_edition()
-    ensures { (tables : TablesState) (c : Changed) (name : List ℕ) → IsTables tables → Accepts tables c → sequence_changed c ≡ Some name
-        → edition_of (applied tables c) name ≡ edition_of tables name + 1 }
+    ensures { (tables : TablesState) (c : Changed) (name : List ℕ) → IsTables tables → Accepts tables c
+        → sequence_changed c ≡ Some name → edition_of (applied tables c) name ≡ edition_of tables name + 1 }
 {}
 
 /// The test of inputs tells exactly whether they are equal.
@@ -125,8 +135,8 @@ pub fn unreached_inputs_stay()
 /// A change leaves each sequence that it doesn't change, with its edition and its content: only its basis may rise.
 /// And it makes no other sequence.
 pub fn other_sequences_stay()
-    ensures there { (tables : TablesState) (c : Changed) (name : List ℕ) (s : SequenceSeen) → Some name ≢ sequence_changed c
-        → sequence_of tables name ≡ Some s → sequence_of (applied tables c) name
+    ensures there { (tables : TablesState) (c : Changed) (name : List ℕ) (s : SequenceSeen)
+        → Some name ≢ sequence_changed c → sequence_of tables name ≡ Some s → sequence_of (applied tables c) name
         ≡ Some (record s { basis = s.basis + (if inputs_differ tables (applied tables c) name then 1 else 0) }) }
     ensures absent { (tables : TablesState) (c : Changed) (name : List ℕ) → Some name ≢ sequence_changed c
         → sequence_of tables name ≡ None → sequence_of (applied tables c) name ≡ None }
@@ -158,7 +168,8 @@ pub fn signatures_stay()
 
 /// A change that is planned is the one that was asked for.
 pub fn a_change_is_what_was_asked()
-    ensures { (tables : TablesState) (asked : Asked) (c : Changed) → planned tables asked ≡ Ok (plan.Change c) → command_of c ≡ asked }
+    ensures { (tables : TablesState) (asked : Asked) (c : Changed)
+        → planned tables asked ≡ Ok (plan.Change c) → command_of c ≡ asked }
 {}
 
 /// An accepted freeze makes a version of a number from 1 to the most that a method may have.
