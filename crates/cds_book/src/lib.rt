@@ -49,4 +49,6 @@ pub use numbers::SequenceNumbers;
 pub use tables::Tables;
 
 #[cfg(test)]
+mod test_lines;
+#[cfg(test)]
 mod tests;
