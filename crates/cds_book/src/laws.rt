@@ -36,14 +36,14 @@ pub fn a_repeated_change_changes_nothing()
         → planned (applied tables c) (command_of c) ≡ Ok plan.Unchanged }
 {}
 
-/// A trace is put as the next version of its name.
+/// A trace is put as the next version of its name, and as the first where there was no such name.
 pub fn a_trace_is_the_next_version()
     ensures { (tables : TablesState) (name : List ℕ) (signal : Signal)
         → trace_versions_of (applied tables (change.Trace name signal)) name
         ≡ Some (unwrap_or (trace_versions_of tables name) 0 + 1) }
 {}
 
-/// A draft is frozen as the version of the number that was named.
+/// An accepted freeze makes the draft the version of the number that was named, which is then the latest.
 pub fn a_freeze_makes_the_version_named()
     ensures { (tables : TablesState) (name : List ℕ) (version : ℕ)
         → Accepts tables (change.Freeze name version)
@@ -83,14 +83,14 @@ pub fn a_frozen_version_is_the_draft()
 {}
 
 /// A change leaves the versions of each trace that it doesn't change: a trace that is put leaves the traces of other
-/// names, and a draft or a freeze leaves all.
+/// names, and each other change leaves all.
 pub fn other_traces_stay()
     ensures { (tables : TablesState) (c : Changed) (name : List ℕ) → Some name ≢ trace_changed c
         → signals_of (applied tables c) name ≡ signals_of tables name }
 {}
 
 /// A change leaves the draft and the versions of each method that it doesn't change: a draft or a freeze leaves the
-/// methods of other names, and a trace leaves all.
+/// methods of other names, and each other change leaves all.
 pub fn other_methods_stay()
     ensures { (tables : TablesState) (c : Changed) (name : List ℕ) → Some name ≢ method_changed c
         → (draft_of (applied tables c) name ≡ draft_of tables name)
@@ -108,7 +108,7 @@ pub fn a_put_sequence_is_read_back()
         { basis = basis_of tables name + (if inputs_differ tables (carried tables put) name then 1 else 0) }) }
 {}
 
-/// An accepted change of a sequence raises its edition by one.
+/// An accepted change of a sequence raises its edition by one, from 0 where the sequence is new.
 pub fn an_accepted_change_raises_the_edition()
     ensures { (tables : TablesState) (c : Changed) (name : List ℕ) → IsTables tables → Accepts tables c
         → sequence_changed c ≡ Some name → edition_of (applied tables c) name ≡ edition_of tables name + 1 }
@@ -152,7 +152,7 @@ pub fn an_accepted_change_is_in_its_ranges()
     ensures { (tables : TablesState) (c : Changed) → IsTables tables → Accepts tables c → IsChange c }
 {}
 
-/// A signature that was carried out, asked for again, is kept under its number.
+/// A signature that was carried out, asked for again, is kept under its number, whatever moment and text it then has.
 pub fn a_repeated_signature_is_kept()
     ensures { (tables : TablesState) (sequence : List ℕ) (number basis moment : ℕ) (name meaning text : List ℕ)
         → Accepts tables (change.Sign sequence number basis moment name meaning text)
