@@ -5,6 +5,7 @@ use Rattle.std.specs.Option.{option_map_or}
 use Rattle.std.proofs.lemmas.Bool.Decides.{nat_tests}
 use Rattle.std.proofs.lemmas.List.{length-append, length-set}
 use Rattle.cds_base.specs.Answers.{◌>>=◌}
+use Rattle.cds_base.specs.NameText.{IsName}
 use Rattle.cds_base.specs.declared.event.Event.{Event}
 use Rattle.cds_sign.specs.declared.command.Change.{Change}
 use Rattle.cds_sign.specs.declared.command.Change.TheVariants as change
@@ -16,7 +17,7 @@ use Rattle.cds_sign.specs.declared.signed.Signed.{Signed}
 use Rattle.cds_book.specs.Held.{bindings_over}
 use Rattle.cds_book.specs.Inputs.{bindings_of, inputs_in}
 use Rattle.cds_book.specs.Judged.{must, can_bind, edition_of, edition_judged, sequence_judged, sign_judged}
-use Rattle.cds_book.specs.Kept.{IsTables, rows_in_all, signed_bytes_in_all}
+use Rattle.cds_book.specs.Kept.{IsTables, IsSignature, rows_in_all, signed_bytes_in_all}
 use Rattle.cds_book.specs.Plan.{planned, carried, counts_of, limit_passed, unless_full, events_planned, rebind_planned, signature_planned, sign_planned, other_planned, row_at, asked_of, basis_of, sequence_put, sequence_made, signature, with_changed, with_events, with_sequence, with_signature, inputs_differ, made_room, rises_of, room_of, Accepts}
 use Rattle.cds_book.specs.Raising.{Makes, Signs}
 use Rattle.cds_book.specs.Same.{same_events}
@@ -56,6 +57,7 @@ IsOther-planned t name edition c is =
 -- what an accepted change makes of a sequence
 pub record MakesSequence (t : TablesState) (c : Change) (name : List ℕ) : Type 0 where
   pub made : Sequence
+  pub named : IsName name
   pub made_is : sequence_made t c ≡ Some made
   pub carried_is : carried t c ≡ with_sequence t name made (signatures_of t name)
   pub room_is : room_of t c ≡ Some (sequence_room name (record made { basis = made.basis + (if inputs_differ t (carried t c) name then 1 else 0) }) (rises_of t c))
@@ -98,7 +100,7 @@ basis_of-there t name s there = sym (ap (λ (o : Option Sequence). option_map_or
 
 -- a sequence whose events or binding are made others
 module _ (t : TablesState) (kept : IsTables t) (name : List ℕ) (edition : ℕ) (c : Change) (f : Sequence → Sequence) (s : Sequence)
-    (there : sequence_of t name ≡ Some s) (other : other_planned t name edition c ≡ Ok (plan.Change c)) (seen : edition ≤ MOST_EDITION)
+    (there : sequence_of t name ≡ Some s) (named : IsName name) (other : other_planned t name edition c ≡ Ok (plan.Change c)) (seen : edition ≤ MOST_EDITION)
     (made : sequence_made t c ≡ option_map f (sequence_of t name)) (put : carried t c ≡ with_changed t name (sequence_made t c)) (room : room_of t c ≡ made_room t c name (sequence_made t c))
     (next : (f s).edition ≡ edition_of t name + 1) (based : (f s).basis ≡ s.basis) (rows : length (f s).rows ≡ length s.rows) (fits : Fits t name (f s)) where
   MakesSequence-other : MakesSequence t c name
@@ -107,6 +109,7 @@ module _ (t : TablesState) (kept : IsTables t) (name : List ℕ) (edition : ℕ)
       let edition_is = (IsOther-planned t name edition c other).edition_is in
       record {
         made = f s;
+        named = named;
         made_is = is;
         carried_is = put ∙ ap (with_changed t name) is;
         room_is = room ∙ ap (made_room t c name) is;
@@ -128,7 +131,7 @@ makes-events t kept name edition row events accepts =
     let two = follows (row_at one.value row) last c one.rest in
     let there = there-found (sequence_of t name) (NoSequence name) one.value one.judged in
     MakesSequence-other t kept name edition c (λ s. record s { edition = edition_of t name + 1; rows = with_events s.rows row events }) one.value
-    there (kept_test (same_events two.value.events events) (other_planned t name edition c) c two.rest) accepts.command.0.edition refl refl refl refl refl (length-events one.value.rows row events)
+    there accepts.command.0.name (kept_test (same_events two.value.events events) (other_planned t name edition c) c two.rest) accepts.command.0.edition refl refl refl refl refl (length-events one.value.rows row events)
     (Fits-events t row events accepts.command.0.events name one.value (edition_of t name + 1) (Fits-there t kept name one.value there))
 
 -- a sequence that is there, bound to another version
@@ -142,7 +145,7 @@ makes-rebind t kept name edition version accepts =
     let two = follows (fits one.value) (last one.value) c one.rest in
     let there = there-found (sequence_of t name) (NoSequence name) one.value one.judged in
     MakesSequence-other t kept name edition c (λ s. record s { edition = edition_of t name + 1; version = version }) one.value
-    there (kept_test (one.value.version == version) (other_planned t name edition c) c two.rest) accepts.command.0.edition refl refl refl refl refl refl
+    there accepts.command.0.name (kept_test (one.value.version == version) (other_planned t name edition c) c two.rest) accepts.command.0.edition refl refl refl refl refl refl
     (Fits-rebind t name one.value (edition_of t name + 1) version (Fits-there t kept name one.value there) (must-so (NoVersion one.value.method) (can_bind (length (texts_of t one.value.method)) version) two.value two.judged))
 
 -- a sequence that is put
@@ -159,6 +162,7 @@ makes-put t kept name edition method version standards rows accepts =
     let parts = IsChange-accepted t kept c accepts in
     record {
       made = sequence_put t name method version standards rows;
+      named = parts.0.name;
       made_is = refl;
       carried_is = refl;
       room_is = refl;
@@ -166,7 +170,7 @@ makes-put t kept name edition method version standards rows accepts =
       basis = refl;
       few_edition = omega (arith, seen, edition_is);
       fits = Fits-put t name (sequence_put t name method version standards rows) (map asked_of rows) standards plans.methods
-          (plans.standards_are ∙ ap Ok listed) (plans.rows_are ∙ ap Ok same) parts.0.standards parts.1;
+          (plans.standards_are ∙ ap Ok listed) (plans.rows_are ∙ ap Ok same) parts.0.method parts.0.standards parts.1;
       few = other.within.0;
       few_in_all = other.within.1.0;
     }
@@ -185,6 +189,8 @@ MakesSequence-accepted t kept (change.Sign sequence number basis moment name mea
 pub record MakesSignature (t : TablesState) (c : Change) (name : List ℕ) : Type 0 where
   pub sequence : Sequence
   pub signed : Signed
+  pub named : IsName name
+  pub ranges : IsSignature signed
   pub there : sequence_of t name ≡ Some sequence
   pub carried_is : carried t c ≡ with_sequence t name sequence (signatures_of t name ++ signed ∷ [])
   pub room_is : room_of t c ≡ Some (sign_room name signed)
@@ -223,6 +229,9 @@ makes-sign t sequence number basis moment name meaning text accepts =
     record {
       sequence = found.0;
       signed = made;
+      named = accepts.command.0.sequence;
+      ranges = let asked = accepts.command.0 in
+          record { basis = asked.basis.enough; moment = asked.moment; name = asked.name; meaning = asked.meaning };
       there = found.1;
       carried_is = is;
       room_is = ap (option_map (λ (s : Sequence). sign_room sequence (over (inputs_in (bindings_of t) s)))) found.1;

@@ -8,12 +8,15 @@ use Rattle.std.proofs.lemmas.List.{length-append}
 use Rattle.std.proofs.lemmas.Slice.Eq.{bytes_eq-Decides}
 use Rattle.cds_trace.specs.Signal.{Signal}
 use Rattle.cds_base.proofs.NamedLaws.{named-placed_other, bytes_eq-self}
+use Rattle.cds_sign.specs.declared.command.Change.{Change}
+use Rattle.cds_sign.specs.declared.command.Change.TheVariants as change
 use Rattle.cds_sign.specs.declared.inputs.Inputs.{Inputs}
 use Rattle.cds_sign.specs.declared.sequence.Sequence.{Sequence}
 use Rattle.cds_sign.specs.declared.signed.Signed.{Signed}
 use Rattle.cds_book.specs.Held.{bindings_over}
 use Rattle.cds_book.specs.Inputs.{Bindings, bindings_of, inputs_in}
-use Rattle.cds_book.specs.Plan.{with_signals, with_method, with_frozen, with_sequence, with_changed, with_signature}
+use Rattle.cds_book.specs.Plan.{carried, sequence_made, with_signals, with_method, with_frozen, with_sequence, with_changed, with_signature}
+use Rattle.cds_book.specs.Raising.{Makes}
 use Rattle.cds_book.specs.Tables.{NamedTraces, NamedMethod, NamedSequence, TablesState, signals_of, texts_of, sequence_of, signatures_of}
 use Rattle.cds_book.specs.declared.over.Over.TheVariants as over
 use Rattle.cds_book.proofs.LookLaws.{signals_of-found, texts_of-found, sequence_of-found}
@@ -117,6 +120,20 @@ pub bindings-unmade : (t : TablesState) (name : List ℕ) (made : Option Sequenc
 unfolding bindings_over
 bindings-unmade t name None is = refl
 bindings-unmade t name (Some q) is = cc
+
+-- what a change that makes a sequence makes other
+pub bindings-carried : (t : TablesState) (c : Change) (own : List ℕ) (s : Sequence) → Makes own c → Some s ≡ sequence_made t c →
+    bindings_over t (over.Sequence own s) ≡ bindings_of (carried t c)
+bindings-carried t (change.Trace name signal) own s makes is = absurd makes
+bindings-carried t (change.Draft name text) own s makes is = absurd makes
+bindings-carried t (change.Freeze name version) own s makes is = absurd makes
+bindings-carried t (change.Sequence name edition method version standards rows) own s makes is =
+    rw (← makes) (bindings-made t name s (sequence_made t (change.Sequence name edition method version standards rows)) is)
+bindings-carried t (change.Events name edition row events) own s makes is =
+    rw (← makes) (bindings-made t name s (sequence_made t (change.Events name edition row events)) is)
+bindings-carried t (change.Rebind name edition version) own s makes is =
+    rw (← makes) (bindings-made t name s (sequence_made t (change.Rebind name edition version)) is)
+bindings-carried t (change.Sign sequence number basis moment name meaning text) own s makes is = absurd makes
 
 -- a signature leaves each sequence
 pub same_sequence : (t : TablesState) (name : List ℕ) (s : Sequence) → sequence_of t name ≡ Some s → (signed : List Signed) (n : List ℕ) → sequence_of t n ≡ sequence_of (with_sequence t name s signed) n

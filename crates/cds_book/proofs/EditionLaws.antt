@@ -1,5 +1,5 @@
 -- The numbers of the sequence of a change once the change is carried out.
-use Rattle.std.proofs.Common.{◌≡◌, ℕ, ◌+◌, ◌≤◌, List, Option, Some, None, option_map, refl, ap, ◌∙◌, subst}
+use Rattle.std.proofs.Common.{◌≡◌, ℕ, ◌+◌, ◌≤◌, List, Some, option_map, refl, ap, ◌∙◌, subst}
 use Rattle.std.specs.Prelude.{if◌then◌else◌}
 use Rattle.cds_sign.specs.declared.command.Change.{Change}
 use Rattle.cds_sign.specs.declared.command.Change.TheVariants as change
@@ -10,7 +10,6 @@ use Rattle.cds_book.specs.Numbers.{numbers_of}
 use Rattle.cds_book.specs.Plan.{applied, basis_of, carried, inputs_differ, sequence_changed, Accepts}
 use Rattle.cds_book.specs.Raising.{Makes}
 use Rattle.cds_book.specs.Tables.{TablesState, sequence_of, signatures_of}
-use Rattle.cds_book.specs.declared.numbers.SequenceNumbers.{SequenceNumbers}
 use Rattle.cds_book.proofs.AcceptedLaws.{MakesSequence, MakesSequence-accepted}
 use Rattle.cds_book.proofs.AgainLaws.{sequence_of-made}
 use Rattle.cds_book.proofs.KeptLaws.{few-made}

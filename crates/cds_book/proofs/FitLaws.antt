@@ -16,6 +16,7 @@ use Rattle.std.proofs.lemmas.Slice.Eq.{bytes_eq-Decides}
 use Rattle.std.proofs.Math.Seq.{map-set_same}
 use Rattle.cds_base.specs.Answers.{◌>>=◌}
 use Rattle.cds_base.specs.EventRange.{EventRanges}
+use Rattle.cds_base.specs.NameText.{IsName}
 use Rattle.cds_base.specs.declared.event.Event.{Event}
 use Rattle.cds_base.proofs.NamedLaws.{bytes_eq-self, named-All}
 use Rattle.cds_sign.specs.Ranges.{AreRows, AreStandards, IsRow, IsWithin}
@@ -170,6 +171,7 @@ standards-there t name standards listed is = (whole (λ n. n) (IsListable t name
 
 -- a sequence that fits the tables under its name
 pub record Fits (t : TablesState) (name : List ℕ) (s : Sequence) : Type 0 where
+  pub method : IsName s.method
   pub rows : AreKeptRows s.rows
   pub standards : AreStandards s.standards
   pub bound : IsBound t s
@@ -177,10 +179,11 @@ pub record Fits (t : TablesState) (name : List ℕ) (s : Sequence) : Type 0 wher
 
 -- one that is put fits them
 pub Fits-put : (t : TablesState) (name : List ℕ) (s : Sequence) (asked : List AskedRow) (standards : List (List ℕ)) → method_judged t s.method s.version ≡ Ok tt → standards_judged t name standards ≡ Ok s.standards → rows_judged t asked ≡ Ok s.rows
-    → AreStandards s.standards → AreRows IsRow s.rows → Fits t name s
-Fits-put t name s asked standards method listed rows are_standards ranges =
+    → IsName s.method → AreStandards s.standards → AreRows IsRow s.rows → Fits t name s
+Fits-put t name s asked standards method listed rows is_name are_standards ranges =
     let fits = rows-fit t asked s.rows rows in
     record {
+      method = is_name;
       rows = record { ranges = ranges; labels = fits.labels; amounts = fits.amounts };
       standards = are_standards;
       bound = record { method = Resolves-method t s.method s.version method; rows = fits.bound };
@@ -206,12 +209,13 @@ Fits-there t kept name s there =
     let entry = named-All sequence_name IsSequenceEntry t.sequences name found.0 kept.sequences.each found.1 in
     let bound = named-All sequence_name (λ (e : NamedSequence). IsBound t e.sequence) t.sequences name found.0 kept.bound found.1 in
     let listed = named-All sequence_name (λ (e : NamedSequence). AreThere t e.sequence.standards) t.sequences name found.0 kept.listed found.1 in
-    let fits : Fits t name found.0.sequence = record { rows = entry.rows; standards = entry.standards; bound = bound; listed = listable t name found.0.sequence.standards listed } in
+    let fits : Fits t name found.0.sequence = record { method = entry.method; rows = entry.rows; standards = entry.standards; bound = bound; listed = listable t name found.0.sequence.standards listed } in
     subst (Fits t name) found.2 fits
 
 -- so it does when it is bound to another version of its method that is there
 pub Fits-rebind : (t : TablesState) (name : List ℕ) (s : Sequence) (edition version : ℕ) → Fits t name s → can_bind (length (texts_of t s.method)) version ≡ true → Fits t name (record s { edition = edition; version = version })
 Fits-rebind t name s edition version fits can = record {
+  method = fits.method;
   rows = fits.rows;
   standards = fits.standards;
   bound = record { method = Resolves-can_bind _ _ can; rows = fits.bound.rows };
@@ -262,6 +266,7 @@ module _ (t : TablesState) (row : ℕ) (events : List Event) (ranges : EventRang
 
   pub Fits-events : (name : List ℕ) (s : Sequence) (edition : ℕ) → Fits t name s → Fits t name (record s { edition = edition; rows = with_events s.rows row events })
   Fits-events name s edition fits = record {
+    method = fits.method;
     rows = kept-replaced s.rows fits.rows;
     standards = fits.standards;
     bound = record {

@@ -4,7 +4,7 @@ use Rattle.std.specs.Prelude.{All, is_some, not}
 use Rattle.std.specs.List.{sum_by}
 use Rattle.std.specs.Option.{option_map_or}
 use Rattle.std.proofs.lemmas.List.{length-append}
-use Rattle.std.proofs.lemmas.List.Elements.{All-nil, All-cons, All-head, All-tail}
+use Rattle.std.proofs.lemmas.List.Elements.{All-nil, All-cons, All-append, All-head, All-tail}
 use Rattle.std.proofs.lemmas.List.Sums.{sum_by-cons}
 use Rattle.cds_base.proofs.NamedLaws.{named-All, All-placed, AreRising-placed, sum_by-placed}
 use Rattle.cds_sign.specs.declared.command.Change.{Change}
@@ -14,7 +14,7 @@ use Rattle.cds_sign.specs.declared.sequence.Sequence.{Sequence}
 use Rattle.cds_book.specs.Held.{HeldSequence, sequence_shown, state_held, IsHeld}
 use Rattle.cds_book.specs.Inputs.{bindings_of, inputs_by, inputs_in, inputs_of}
 use Rattle.cds_book.specs.Judged.{edition_of}
-use Rattle.cds_book.specs.Kept.{IsTables, IsSequenceEntry, AreNumbered, changes_in_all}
+use Rattle.cds_book.specs.Kept.{IsTables, IsSequenceEntry, IsSignature, AreNumbered, changes_in_all}
 use Rattle.cds_book.specs.Plan.{applied, carried, are_others, basis_of, inputs_differ, sequence_made, sequence_put, with_events, with_sequence, Accepts}
 use Rattle.cds_book.specs.Tables.{NamedSequence, TablesState, sequence_named, sequence_of, signatures_of}
 use Rattle.cds_book.specs.declared.tables.Tables.TheInside.{Inside}
@@ -36,7 +36,27 @@ few-signatures t kept name = by_found (sequence_named t name) refl
     by_found None is = omega arith
     by_found (Some e) is = (named-All sequence_name IsSequenceEntry t.sequences name e kept.sequences.each is).few_signed
 
--- which are numbered
+-- each of which is one
+signed-signatures : (t : TablesState) → IsTables t → (name : List ℕ) → All IsSignature (signatures_of t name)
+unfolding signatures_of
+signed-signatures t kept name = by_found (sequence_named t name) refl
+  where
+    by_found : (found : Option NamedSequence) → sequence_named t name ≡ found →
+        All IsSignature (unwrap_or (option_map (λ (e : NamedSequence). e.signed) found) [])
+    by_found None is = All-nil IsSignature
+    by_found (Some e) is = (named-All sequence_name IsSequenceEntry t.sequences name e kept.sequences.each is).signed
+
+-- a basis is counted from 1
+first-basis : (t : TablesState) → IsTables t → (name : List ℕ) → 1 ≤ basis_of t name
+unfolding basis_of sequence_of
+first-basis t kept name = by_found (sequence_named t name) refl
+  where
+    by_found : (found : Option NamedSequence) → sequence_named t name ≡ found →
+        1 ≤ option_map_or (λ (s : Sequence). s.basis) (option_map (λ (e : NamedSequence). e.sequence) found) 1
+    by_found None is = omega arith
+    by_found (Some e) is = (named-All sequence_name IsSequenceEntry t.sequences name e kept.sequences.each is).first_basis
+
+-- and they are numbered
 numbers-signatures : (t : TablesState) → IsTables t → (name : List ℕ) → AreNumbered (signatures_of t name)
 unfolding signatures_of
 numbers-signatures t kept name = by_found (sequence_named t name) refl
@@ -57,7 +77,18 @@ IsTables-made t kept c name m =
     let signed = few-signatures t kept name in
     let seen = m.few_edition in
     let next = m.edition in
-    let entry : IsSequenceEntry (record { name = name; sequence = m.made; signed = signatures_of t name }) = record { edition = omega (arith, seen, next); rows = m.fits.rows; standards = m.fits.standards; few_signed = signed; numbers = numbers-signatures t kept name } in
+    let entry : IsSequenceEntry (record { name = name; sequence = m.made; signed = signatures_of t name }) = record {
+      name = m.named;
+      first_edition = omega (arith, next);
+      edition = omega (arith, seen, next);
+      first_basis = let based = m.basis in let first = first-basis t kept name in omega (arith, based, first);
+      method = m.fits.method;
+      rows = m.fits.rows;
+      standards = m.fits.standards;
+      few_signed = signed;
+      signed = signed-signatures t kept name;
+      numbers = numbers-signatures t kept name;
+    } in
     let bytes = bytes-with t kept name m.made (signatures_of t name) in
     let few_bytes = kept.sequences.few_bytes in
     let put = IsTables-put t kept name m.made m.edition m.basis entry (bound-with t kept name m.made (signatures_of t name) m.fits) (listed-with t kept name m.made (signatures_of t name) m.fits) m.few m.few_in_all (omega (arith, bytes, few_bytes)) in
@@ -76,15 +107,23 @@ IsTables-signed t kept c name m =
     let found = there-entry t name s m.there in
     let kept_one = named-All sequence_name IsSequenceEntry t.sequences name found.0 kept.sequences.each found.1 in
     let edition = subst (λ (q : Sequence). q.edition ≤ MOST_EDITION + 1) found.2 kept_one.edition in
+    let first_edition = subst (λ (q : Sequence). 1 ≤ q.edition) found.2 kept_one.first_edition in
+    let first_basis = subst (λ (q : Sequence). 1 ≤ q.basis) found.2 kept_one.first_basis in
     let fits = Fits-there t kept name s m.there in
     let basis = subst (λ (q : Sequence). q.basis ≤ changes_in_all t) found.2 (named-All sequence_name (λ (e : NamedSequence). e.sequence.basis ≤ changes_in_all t) t.sequences name found.0 kept.bases found.1) in
     let more = length-append (signatures_of t name) (m.signed ∷ []) in
     let few_signed = m.few in
     let entry_kept : IsSequenceEntry entry = record {
+      name = m.named;
+      first_edition = first_edition;
       edition = edition;
+      first_basis = first_basis;
+      method = fits.method;
       rows = fits.rows;
       standards = fits.standards;
       few_signed = omega (arith, more, few_signed);
+      signed = All-append IsSignature (signatures_of t name) (m.signed ∷ []) (signed-signatures t kept name)
+          (All-cons IsSignature m.signed [] m.ranges (All-nil IsSignature));
       numbers = AreNumbered-push (signatures_of t name) m.signed (numbers-signatures t kept name) m.number;
     } in
     let many = sequences-with t kept name s signed in

@@ -151,6 +151,7 @@ IsTables-draft t name text kept accepts grows =
           subst (λ (s : TablesState). length s.methods ≤ MOST_METHODS) is within.0
     ] in
     let kept_entry : IsMethodEntry entry = record {
+      name = accepts.command.0.0;
       draft = accepts.command.1;
       versions = All-texts t kept name;
       few = few_texts t kept name;
@@ -265,6 +266,7 @@ IsTables-freeze t name version kept accepts frozen =
     let within : AreWithin (counts_of (change.Freeze name version) after) = subst (λ s. AreWithin (counts_of (change.Freeze name version) s)) is new.within in
     let method : IsMethod new.draft = IsMethod-draft t kept name new.draft new.is in
     let kept_entry : IsMethodEntry entry = record {
+      name = accepts.command.0;
       draft = method;
       versions = All-push IsMethod (texts_of t name) new.draft (All-texts t kept name) method;
       few = subst (λ (ts : List (List ℕ)). length ts ≤ MOST_VERSIONS) (texts_of-with t name new.draft texts) within.0;

@@ -41,6 +41,21 @@ rise b = if b then 1 else 0
 no_less : (n : ℕ) → n ≤ n
 no_less n = omega arith
 
+-- a basis that rises is still one
+entry-raised : (b : Bool) (e : NamedSequence) → IsSequenceEntry e → IsSequenceEntry (raised b e)
+entry-raised b e h = record {
+  name = h.name;
+  first_edition = h.first_edition;
+  edition = h.edition;
+  first_basis = let first = h.first_basis in omega (arith, first);
+  method = h.method;
+  rows = h.rows;
+  standards = h.standards;
+  few_signed = h.few_signed;
+  signed = h.signed;
+  numbers = h.numbers;
+}
+
 module _ (t : TablesState) (kept : IsTables t) (d : List ℕ → Bool) where
   -- the tables with each basis raised as told
   abbrev raised_tables : TablesState
@@ -71,7 +86,8 @@ module _ (t : TablesState) (kept : IsTables t) (d : List ℕ → Bool) where
         methods = kept.methods;
         sequences = record {
           names = subst AreRising (sym (map-map sequence_name g t.sequences)) ks.names;
-          each = All-map IsSequenceEntry g t.sequences (All-mono IsSequenceEntry (λ e. IsSequenceEntry (g e)) (λ e h. record { edition = h.edition; rows = h.rows; standards = h.standards; few_signed = h.few_signed; numbers = h.numbers }) t.sequences ks.each);
+          each = All-map IsSequenceEntry g t.sequences
+              (All-mono IsSequenceEntry (λ e. IsSequenceEntry (g e)) (λ e h. entry-raised (d e.name) e h) t.sequences ks.each);
           few = let same = length-map t.sequences g in let few = ks.few in omega (arith, same, few);
           few_rows = let same = sum_by-mapped (λ (e : NamedSequence). length e.sequence.rows) g (λ (e : NamedSequence). length e.sequence.rows) (λ e. refl) t.sequences in let few = ks.few_rows in omega (arith, same, few);
           few_bytes = let same = sum_by-mapped (λ (e : NamedSequence). sum_by (λ (s : Signed). length s.text) e.signed) g (λ (e : NamedSequence). sum_by (λ (s : Signed). length s.text) e.signed) (λ e. refl) t.sequences in let few = ks.few_bytes in omega (arith, same, few);

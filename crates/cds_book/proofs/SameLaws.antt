@@ -5,15 +5,17 @@ use Rattle.std.specs.Cmp.{booleans_Decides}
 use Rattle.std.specs.Cmp.Lexicographic.{pointwise}
 use Rattle.std.proofs.lemmas.Bool.Decides.{Decides-eqb, Decides-and}
 use Rattle.std.proofs.lemmas.Slice.Eq.{slice_eq-Decides, bytes_eq-Decides}
+use Rattle.cds_base.specs.EventParts.{EventParts, event_parts}
 use Rattle.cds_base.specs.declared.event.Event.{Event}
 use Rattle.cds_base.specs.declared.event.Event.TheVariants.{Inhibit, Valley, Drop, Baseline, Slope, Skim}
+use Rattle.cds_sign.specs.RowKinds.{kind_number}
 use Rattle.cds_sign.specs.declared.inputs.Inputs.{Inputs}
 use Rattle.cds_sign.specs.declared.inputs.Listed.{Listed}
 use Rattle.cds_sign.specs.declared.inputs.ListedRow.{ListedRow}
 use Rattle.cds_sign.specs.declared.row.Row.{Row}
 use Rattle.cds_sign.specs.declared.row.RowKind.{RowKind}
 use Rattle.cds_sign.specs.declared.row.RowKind.TheVariants.{Blank, Standard, Replicate, Sample}
-use Rattle.cds_book.specs.Same.{EventParts, event_parts, same_parts, same_event, same_events, kind_number, same_amount, same_row, same_rows, same_listed_row, same_listed, same_inputs}
+use Rattle.cds_book.specs.Same.{same_parts, same_event, same_events, same_amount, same_row, same_rows, same_listed_row, same_listed, same_inputs}
 
 -- what decides one statement decides another that says the same
 Decides-to : {P Q : Type 0} (r : Bool) → Decides r P → (P → Q) → (Q → P) → Decides r Q
@@ -45,12 +47,13 @@ event_back : EventParts → Event
 event_back p = by_kind p.kind p.first p.second p.third
   where
     by_kind : ℕ → ℕ → ℕ → ℕ → Event
-    by_kind zero a b c = Inhibit a b
-    by_kind (suc zero) a b c = Valley a b
-    by_kind (suc (suc zero)) a b c = Drop a
-    by_kind (suc (suc (suc zero))) a b c = Baseline a b
-    by_kind (suc (suc (suc (suc zero)))) a b c = Slope a b c
-    by_kind (suc (suc (suc (suc (suc n))))) a b c = Skim a b
+    by_kind zero a b c = Skim a b
+    by_kind (suc zero) a b c = Inhibit a b
+    by_kind (suc (suc zero)) a b c = Valley a b
+    by_kind (suc (suc (suc zero))) a b c = Drop a
+    by_kind (suc (suc (suc (suc zero)))) a b c = Baseline a b
+    by_kind (suc (suc (suc (suc (suc zero))))) a b c = Slope a b c
+    by_kind (suc (suc (suc (suc (suc (suc n)))))) a b c = Skim a b
 
 event_is : (e : Event) → event_back (event_parts e) ≡ e
 unfolding event_back
@@ -70,10 +73,11 @@ same_events-Decides = list-Decides same_event event-Decides
 
 -- the kind of a number
 kind_back : ℕ → RowKind
-kind_back zero = Blank
-kind_back (suc zero) = Standard
-kind_back (suc (suc zero)) = Replicate
-kind_back (suc (suc (suc n))) = Sample
+kind_back zero = Sample
+kind_back (suc zero) = Blank
+kind_back (suc (suc zero)) = Standard
+kind_back (suc (suc (suc zero))) = Replicate
+kind_back (suc (suc (suc (suc n)))) = Sample
 
 kind_is : (k : RowKind) → kind_back (kind_number k) ≡ k
 unfolding kind_back

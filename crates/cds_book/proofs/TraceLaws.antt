@@ -1,11 +1,13 @@
 -- What the tables are once a trace is put: its versions, the counts, and that all rules are kept.
 use Rattle.std.proofs.Common.{◌≡◌, ◌∙◌, ℕ, ◌+◌, ◌≤◌, true, false, inl, inr, List, [], ◌∷◌, ◌++◌, length, Option, Some, None, Ok, option_map, unwrap_or, refl, sym, ap, subst, arith}
+use Rattle.std.specs.Prelude.{All}
 use Rattle.std.specs.List.{sum_by}
 use Rattle.std.specs.Option.{option_map_or}
 use Rattle.std.proofs.lemmas.Bool.{cases_Bool}
 use Rattle.std.proofs.lemmas.List.{length-append}
+use Rattle.std.proofs.lemmas.List.Elements.{All-nil, All-cons, All-append}
 use Rattle.std.proofs.lemmas.List.Sums.{sum_by-append}
-use Rattle.cds_trace.specs.Signal.{Signal}
+use Rattle.cds_trace.specs.Signal.{Signal, IsTrace}
 use Rattle.cds_book.specs.Kept.{AreChanges, IsTraceEntry, IsTables, trace_versions_in_all, samples_in_all, changes_in_all}
 use Rattle.cds_book.specs.Plan.{planned, carried, with_signals, counts_of, limit_passed, unless_full, same_signal, is_latest, Accepts}
 use Rattle.cds_book.specs.Tables.{NamedTraces, TablesState, traces_named, signals_of}
@@ -136,6 +138,16 @@ AreChanges-signals t kept name = by_found (traces_named t name) refl
     by_found None is = AreChanges-none
     by_found (Some e) is = (named-All trace_name IsTraceEntry t.traces name e kept.traces.each is).changes
 
+-- and each is a trace
+All-signals : (t : TablesState) → IsTables t → (name : List ℕ) → All IsTrace (signals_of t name)
+unfolding signals_of
+All-signals t kept name = by_found (traces_named t name) refl
+  where
+    by_found : (found : Option NamedTraces) → traces_named t name ≡ found →
+        All IsTrace (unwrap_or (option_map (λ (e : NamedTraces). e.versions) found) [])
+    by_found None is = All-nil IsTrace
+    by_found (Some e) is = (named-All trace_name IsTraceEntry t.traces name e kept.traces.each is).traces
+
 -- a name has few versions
 pub few_signals : (t : TablesState) → IsTables t → (name : List ℕ) → length (signals_of t name) ≤ MOST_VERSIONS
 unfolding signals_of
@@ -156,6 +168,9 @@ IsTables-trace t name signal kept accepts grows =
     let within : AreWithin (counts_of (change.Trace name signal) after) = subst (λ s. AreWithin (counts_of (change.Trace name signal) s)) is new.within in
     let few : length versions ≤ MOST_VERSIONS = subst (λ (vs : List Signal). length vs ≤ MOST_VERSIONS) (signals_of-with t name versions) within.1.0 in
     let kept_entry : IsTraceEntry entry = record {
+      name = accepts.command.0.0;
+      traces = All-append IsTrace (signals_of t name) (signal ∷ []) (All-signals t kept name)
+          (All-cons IsTrace signal [] accepts.command.0.1 (All-nil IsTrace));
       some = omega (arith, length-append (signals_of t name) (signal ∷ []));
       few = few;
       changes = AreChanges-push same_signal same_signal-Decides (signals_of t name) signal (AreChanges-signals t kept name) new.other;

@@ -1,13 +1,11 @@
 -- How the tables are held. No public clause names this.
-use Rattle.std.specs.Prelude.{All, ◌≡◌, ℕ, ◌+◌, ◌<◌, List, [], Some, IfSome, Vec, map, length, option_map, vec_len, vec_capacity, if◌then◌else◌}
+use Rattle.std.specs.Prelude.{◌≡◌, ℕ, ◌+◌, ◌<◌, List, [], Some, IfSome, Vec, map, length, option_map, vec_len, vec_capacity, if◌then◌else◌}
 use Rattle.std.specs.Str.{bytes_eq}
 use Rattle.std.specs.declared.alloc.Global.{Global}
 use Rattle.cds_trace.specs.Signal.{Signal}
 use Rattle.std.specs.List.{HoldsAt}
 use Rattle.cds_base.specs.Named.{StandsAt, IsGapAt}
-use Rattle.cds_sign.specs.declared.row.Row.{Row}
-use Rattle.cds_sign.specs.declared.sequence.Sequence.{Sequence as Injections}
-use Rattle.cds_book.specs.Inputs.{Bindings, bindings_of, listed_of, resolved}
+use Rattle.cds_book.specs.Inputs.{Bindings, bindings_of}
 use Rattle.cds_book.specs.Tables.{NamedTraces, NamedMethod, NamedSequence, TablesState, TablesValue, Room, trace_room, draft_room, freeze_room, sequence_room, sign_room, signals_of, texts_of, sequence_of}
 use Rattle.cds_book.specs.Kept.{IsTables, trace_versions_in_all, samples_in_all, method_versions_in_all}
 use Rattle.cds_base.specs.declared.named.Named.{Named}
@@ -63,18 +61,13 @@ state_held a = record {
 -- what bindings are resolved by once this is made other
 unfoldable pub bindings_over : TablesState → Over → Bindings
 bindings_over tables over.Nothing = bindings_of tables
-bindings_over tables (over.Trace name) = record (bindings_of tables) { traces = λ n. length (signals_of tables n) + (if bytes_eq n name then 1 else 0) }
-bindings_over tables (over.Method name) = record (bindings_of tables) { methods = λ n. length (texts_of tables n) + (if bytes_eq n name then 1 else 0) }
-bindings_over tables (over.Sequence name sequence) = record (bindings_of tables) { sequences = λ n. if bytes_eq name n then Some sequence else sequence_of tables n }
-
--- what a sequence binds is resolved as before once this is made other
-pub record BindsSame (tables : TablesState) (made : Over) (sequence : Injections) : Type 0 where
-  pub method : resolved ((bindings_over tables made).methods sequence.method) sequence.version ≡ resolved ((bindings_of tables).methods sequence.method) sequence.version
-  pub rows : All (λ (row : Row). resolved ((bindings_over tables made).traces row.trace) row.version ≡ resolved ((bindings_of tables).traces row.trace) row.version) sequence.rows
-
--- what the sequence of a name gives to those that list it is as before once this is made other
-abbrev pub ListsSame : TablesState → Over → List ℕ → Type 0
-ListsSame tables made name = listed_of (bindings_over tables made) name ≡ listed_of (bindings_of tables) name
+bindings_over tables (over.Trace name) =
+    record (bindings_of tables) { traces = λ n. length (signals_of tables n) + (if bytes_eq n name then 1 else 0) }
+bindings_over tables (over.Method name) =
+    record (bindings_of tables) { methods = λ n. length (texts_of tables n) + (if bytes_eq n name then 1 else 0) }
+bindings_over tables (over.Sequence name sequence) = record (bindings_of tables) {
+  sequences = λ n. if bytes_eq name n then Some sequence else sequence_of tables n;
+}
 
 -- what tables are seen as
 abbrev pub tables_held : Inside → TablesValue
@@ -104,10 +97,13 @@ HasRoom a (Traces name at versions rises) =
     × (versions.items ≡ [])
     × (vec_len versions < vec_capacity versions)
 HasRoom a (Draft name at) = IsMethodAt a.methods.entries.items name at
-HasRoom a (Method name at) = IsMethodGap a.methods.entries.items name at × (vec_len a.methods.entries < vec_capacity a.methods.entries)
+HasRoom a (Method name at) =
+    IsMethodGap a.methods.entries.items name at × (vec_len a.methods.entries < vec_capacity a.methods.entries)
 HasRoom a (Freeze name at text rises) =
     IsMethodAt a.methods.entries.items name at
-    × HoldsAt (λ (e : HeldMethod). (e.value.draft ≡ text) × (vec_len e.value.versions < vec_capacity e.value.versions)) a.methods.entries.items at
+    × HoldsAt
+    (λ (e : HeldMethod). (e.value.draft ≡ text) × (vec_len e.value.versions < vec_capacity e.value.versions))
+    a.methods.entries.items at
 HasRoom a (Sequence name made rises) = vec_len a.sequences.entries < vec_capacity a.sequences.entries
 HasRoom a (Sign name at signed) =
     StandsAt held_name a.sequences.entries.items name at

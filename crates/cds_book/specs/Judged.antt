@@ -23,7 +23,8 @@ abbrev pub must : PlanError → Bool → Result (Unit {0}) PlanError
 must refusal so = if so then Ok tt else Err refusal
 
 -- items one after the other, each judged with what came of those before it
-unfoldable pub each_judged : {A B : Type 0} → (List B → A → Result B PlanError) → List B → List A → Result (List B) PlanError
+unfoldable pub each_judged : {A B : Type 0} → (List B → A → Result B PlanError) → List B → List A →
+    Result (List B) PlanError
 each_judged judge done [] = Ok done
 each_judged judge done (x ∷ xs) = do
   y ← judge done x
@@ -107,7 +108,8 @@ edition_judged tables name edition = must (Edition (edition_of tables name)) (ed
 
 -- whether a signature is over this basis, by this name and with this meaning
 abbrev pub says_same : ℕ → List ℕ → List ℕ → Signed → Bool
-says_same basis name meaning signed = (signed.basis == basis) && (bytes_eq signed.name name && bytes_eq signed.meaning meaning)
+says_same basis name meaning signed =
+    (signed.basis == basis) && (bytes_eq signed.name name && bytes_eq signed.meaning meaning)
 
 -- a signature that isn't kept: its number must be the next one, then its basis the kept one
 unfoldable pub new_judged : TablesState → List ℕ → ℕ → ℕ → ℕ → Result SignPlan PlanError

@@ -1,9 +1,13 @@
 -- What all tables keep, whatever was done to them. This project's own.
-use Rattle.std.specs.Prelude.{◌≡◌, ◌≢◌, ◌⊎◌, ℕ, ◌+◌, ◌≤◌, List, [], All, IfSome, IsSome, IsTrue, is_ok, length, map, sum_by}
+use Rattle.std.specs.Prelude.{◌≡◌, ◌≢◌, ◌⊎◌, ℕ, ◌+◌, ◌<◌, ◌≤◌, true, List, [], All, IfSome, IsSome, IsTrue, is_ok, length, map, sum_by}
 use Rattle.std.specs.List.{AllAdjacentBelow, IsDistinct}
 use Rattle.std.specs.Str.{bytes_eq}
 use Rattle.cds_rules.specs.Stated.{stated}
+use Rattle.cds_base.specs.NameText.{IsName}
 use Rattle.cds_base.specs.Named.{AreRising}
+use Rattle.cds_base.specs.declared.clock.TheConstants.{MOMENT_LIMIT}
+use Rattle.cds_trace.specs.Signal.{IsTrace}
+use Rattle.cds_sign.specs.Printed.{is_printed}
 use Rattle.cds_sign.specs.Ranges.{AreRows, AreStandards, IsRow}
 use Rattle.cds_sign.specs.declared.limits.TheConstants.{MOST_EDITION, MOST_VERSIONS, MOST_SIGNATURES}
 use Rattle.cds_sign.specs.declared.row.Row.{Row}
@@ -41,15 +45,19 @@ rows_in_all sequences = sum_by (λ entry. length entry.sequence.rows) sequences
 abbrev pub signed_bytes_in_all : List NamedSequence → ℕ
 signed_bytes_in_all sequences = sum_by (λ entry. sum_by (λ signed. length signed.text) entry.signed) sequences
 
--- what is kept of a trace name: it has a version, at most 1,000, and each differs from the one before it
+-- what is kept of a trace name: it is a name, it has a version, at most 1,000, each is a trace, and each differs from
+-- the one before it
 pub record IsTraceEntry (entry : NamedTraces) : Type 0 where
+  pub name : IsName entry.name
+  pub traces : All IsTrace entry.versions
   pub some : 1 ≤ length entry.versions
   pub few : length entry.versions ≤ MOST_VERSIONS
   pub changes : AreChanges entry.versions
 
--- what is kept of a method: its draft and its versions are methods, it has at most 1,000 versions, and each differs
--- from the one before it
+-- what is kept of a method: it stands under a name, its draft and its versions are methods, it has at most 1,000
+-- versions, and each differs from the one before it
 pub record IsMethodEntry (entry : NamedMethod) : Type 0 where
+  pub name : IsName entry.name
   pub draft : IsMethod entry.draft
   pub versions : All IsMethod entry.versions
   pub few : length entry.versions ≤ MOST_VERSIONS
@@ -73,7 +81,8 @@ pub record IsMethods (methods : List NamedMethod) : Type 0 where
 -- how often sequences were changed, and how many versions there are: no basis can have risen more often
 abbrev pub changes_in_all : TablesState → ℕ
 changes_in_all tables =
-    sum_by (λ (entry : NamedSequence). entry.sequence.edition) tables.sequences + (trace_versions_in_all tables.traces + method_versions_in_all tables.methods)
+    sum_by (λ (entry : NamedSequence). entry.sequence.edition) tables.sequences
+    + (trace_versions_in_all tables.traces + method_versions_in_all tables.methods)
 
 -- a version that is bound is there: there is one at all, and the one that is named is no later than the latest
 abbrev pub Resolves : ℕ → ℕ → Type 0
@@ -100,8 +109,8 @@ AreListed tables = All (λ (entry : NamedSequence). AreThere tables entry.sequen
 abbrev pub HasOwnAmounts : Row → Type 0
 HasOwnAmounts row = (row.amounts ≡ []) ⊎ IsTrue (is_standard row.kind)
 
--- what is kept of the rows of a sequence: there are 1 to 200, each of whose parts is in its range, no two have one label,
--- and standards alone state amounts
+-- what is kept of the rows of a sequence: there are 1 to 200, each of whose parts is in its range, no two have one
+-- label, and standards alone state amounts
 pub record AreKeptRows (rows : List Row) : Type 0 where
   pub ranges : AreRows IsRow rows
   pub labels : IsDistinct bytes_eq (map (λ (row : Row). row.label) rows)
@@ -111,13 +120,27 @@ pub record AreKeptRows (rows : List Row) : Type 0 where
 abbrev pub AreNumbered : List Signed → Type 0
 AreNumbered signed = (number : ℕ) → IfSome (numbered signed number) (λ s. s.number ≡ number)
 
--- what is kept of a sequence: its edition is at most 2^32, its rows are kept, it lists 1 to 8 sequences, none of them
--- twice, and it has at most 100 signatures, which are numbered
+-- what is kept of a signature: it is over a basis, counted from 1, its moment is before the year 10000, and
+-- the name and the meaning are 1 to 64 printed ASCII characters or spaces
+pub record IsSignature (signed : Signed) : Type 0 where
+  pub basis : 1 ≤ signed.basis
+  pub moment : signed.moment < MOMENT_LIMIT
+  pub name : is_printed signed.name ≡ true
+  pub meaning : is_printed signed.meaning ≡ true
+
+-- what is kept of a sequence: it stands under a name, its edition and its basis are counted from 1, its edition is at
+-- most 2^32, its method has a name, its rows are kept, it lists 1 to 8 sequences, none of them twice, and it has at
+-- most 100 signatures, which are numbered and whose parts are kept
 pub record IsSequenceEntry (entry : NamedSequence) : Type 0 where
+  pub name : IsName entry.name
+  pub first_edition : 1 ≤ entry.sequence.edition
   pub edition : entry.sequence.edition ≤ MOST_EDITION + 1
+  pub first_basis : 1 ≤ entry.sequence.basis
+  pub method : IsName entry.sequence.method
   pub rows : AreKeptRows entry.sequence.rows
   pub standards : AreStandards entry.sequence.standards
   pub few_signed : length entry.signed ≤ MOST_SIGNATURES
+  pub signed : All IsSignature entry.signed
   pub numbers : AreNumbered entry.signed
 
 -- and of all sequences

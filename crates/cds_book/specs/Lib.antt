@@ -4,6 +4,7 @@ pub mod Same
 pub mod Kept
 pub mod Judged
 pub mod Plan
+pub mod Reach
 pub mod Numbers
 pub mod Refusal
 pub mod Held

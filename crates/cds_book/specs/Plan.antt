@@ -37,12 +37,14 @@ use Rattle.cds_book.specs.declared.limits.TheConstants.{MOST_TRACE_NAMES, MOST_T
 -- the tables with these versions of a trace
 abbrev pub with_signals : TablesState → List ℕ → List Signal → TablesState
 with_signals tables name versions =
-    record tables { traces = placed (λ (e : NamedTraces). e.name) tables.traces (record { name = name; versions = versions }) }
+    let entry : NamedTraces = record { name = name; versions = versions } in
+    record tables { traces = placed (λ (e : NamedTraces). e.name) tables.traces entry }
 
 -- the tables with this draft and these versions of a method
 abbrev pub with_method : TablesState → List ℕ → List ℕ → List (List ℕ) → TablesState
 with_method tables name draft versions =
-    record tables { methods = placed (λ (e : NamedMethod). e.name) tables.methods (record { name = name; draft = draft; versions = versions }) }
+    let entry : NamedMethod = record { name = name; draft = draft; versions = versions } in
+    record tables { methods = placed (λ (e : NamedMethod). e.name) tables.methods entry }
 
 -- the tables with the draft of a method as its next version, as before where there is no such method
 abbrev pub with_frozen : TablesState → List ℕ → Option (List ℕ) → TablesState
@@ -52,7 +54,8 @@ with_frozen tables name (Some draft) = with_method tables name draft (texts_of t
 -- the tables with this sequence and these signatures of it
 abbrev pub with_sequence : TablesState → List ℕ → Sequence → List Signed → TablesState
 with_sequence tables name sequence signed =
-    record tables { sequences = placed (λ (e : NamedSequence). e.name) tables.sequences (record { name = name; sequence = sequence; signed = signed }) }
+    let entry : NamedSequence = record { name = name; sequence = sequence; signed = signed } in
+    record tables { sequences = placed (λ (e : NamedSequence). e.name) tables.sequences entry }
 
 -- the tables with this sequence under the signatures that its name has, as before where there is none
 abbrev pub with_changed : TablesState → List ℕ → Option Sequence → TablesState
@@ -61,7 +64,8 @@ with_changed tables name (Some sequence) = with_sequence tables name sequence (s
 
 -- the rows with these manual events of the row of this number, counted from 1
 abbrev pub with_events : List Row → ℕ → List Event → List Row
-with_events rows row events = option_map_or (λ (r : Row). set rows (row - 1) (record r { events = events })) (numbered rows row) rows
+with_events rows row events =
+    option_map_or (λ (r : Row). set rows (row - 1) (record r { events = events })) (numbered rows row) rows
 
 -- the basis of a sequence, 1 where there is none
 unfoldable pub basis_of : TablesState → List ℕ → ℕ
@@ -80,11 +84,15 @@ sequence_put tables name method version standards rows = record {
 
 -- the sequence that a change makes, but for its basis; none where it makes none
 unfoldable pub sequence_made : TablesState → Change → Option Sequence
-sequence_made tables (change.Sequence name edition method version standards rows) = Some (sequence_put tables name method version standards rows)
+sequence_made tables (change.Sequence name edition method version standards rows) =
+    Some (sequence_put tables name method version standards rows)
 sequence_made tables (change.Events name edition row events) =
-    option_map (λ (s : Sequence). record s { edition = edition_of tables name + 1; rows = with_events s.rows row events }) (sequence_of tables name)
+    option_map
+    (λ (s : Sequence). record s { edition = edition_of tables name + 1; rows = with_events s.rows row events })
+    (sequence_of tables name)
 sequence_made tables (change.Rebind name edition version) =
-    option_map (λ (s : Sequence). record s { edition = edition_of tables name + 1; version = version }) (sequence_of tables name)
+    option_map (λ (s : Sequence). record s { edition = edition_of tables name + 1; version = version })
+    (sequence_of tables name)
 sequence_made tables (change.Trace name signal) = None
 sequence_made tables (change.Draft name text) = None
 sequence_made tables (change.Freeze name version) = None
@@ -95,12 +103,20 @@ sequence_made tables (change.Sign sequence number basis moment name meaning text
 abbrev pub with_signature : TablesState → List ℕ → (Inputs → Signed) → Option Sequence → TablesState
 with_signature tables name signature None = tables
 with_signature tables name signature (Some sequence) =
-    with_sequence tables name sequence (signatures_of tables name ++ signature (inputs_in (bindings_of tables) sequence) ∷ [])
+    with_sequence tables name sequence
+    (signatures_of tables name ++ signature (inputs_in (bindings_of tables) sequence) ∷ [])
 
 -- a signature over these inputs
 abbrev pub signature : ℕ → ℕ → ℕ → List ℕ → List ℕ → List ℕ → Inputs → Signed
-signature number basis moment name meaning text inputs =
-    record { number = number; basis = basis; moment = moment; name = name; meaning = meaning; inputs = inputs; text = text }
+signature number basis moment name meaning text inputs = record {
+  number = number;
+  basis = basis;
+  moment = moment;
+  name = name;
+  meaning = meaning;
+  inputs = inputs;
+  text = text;
+}
 
 -- the tables with a change carried out: a trace becomes the next version of its name, a text replaces the draft, a
 -- freeze makes the draft the next version, a sequence is put, has other events or another version of its method, and a
@@ -111,8 +127,10 @@ carried tables (change.Draft name text) = with_method tables name text (texts_of
 carried tables (change.Freeze name version) = with_frozen tables name (draft_of tables name)
 carried tables (change.Sequence name edition method version standards rows) =
     with_changed tables name (sequence_made tables (change.Sequence name edition method version standards rows))
-carried tables (change.Events name edition row events) = with_changed tables name (sequence_made tables (change.Events name edition row events))
-carried tables (change.Rebind name edition version) = with_changed tables name (sequence_made tables (change.Rebind name edition version))
+carried tables (change.Events name edition row events) =
+    with_changed tables name (sequence_made tables (change.Events name edition row events))
+carried tables (change.Rebind name edition version) =
+    with_changed tables name (sequence_made tables (change.Rebind name edition version))
 carried tables (change.Sign sequence number basis moment name meaning text) =
     with_signature tables sequence (signature number basis moment name meaning text) (sequence_of tables sequence)
 
@@ -128,12 +146,15 @@ inputs_differ before after name = are_others (inputs_of before name) (inputs_of 
 
 -- a sequence whose basis rises by one, or stays
 abbrev pub raised : Bool → NamedSequence → NamedSequence
-raised rises entry = record entry { sequence = record entry.sequence { basis = entry.sequence.basis + (if rises then 1 else 0) } }
+raised rises entry = record entry {
+  sequence = record entry.sequence { basis = entry.sequence.basis + (if rises then 1 else 0) };
+}
 
 -- the tables in which the basis of each sequence rises by one that was there before and whose inputs are now others
 abbrev pub rebased : TablesState → TablesState → TablesState
-rebased before after =
-    record after { sequences = map (λ (e : NamedSequence). raised (inputs_differ before after e.name) e) after.sequences }
+rebased before after = record after {
+  sequences = map (λ (e : NamedSequence). raised (inputs_differ before after e.name) e) after.sequences;
+}
 
 -- the tables after a change
 unfoldable pub applied : TablesState → Change → TablesState
@@ -201,7 +222,8 @@ freeze_planned tables name version (Some draft) =
 -- whether a sequence has this content: the binding of its method, the sequences that it lists in order, and its rows
 abbrev pub has_content : List ℕ → ℕ → List (List ℕ) → List Row → Sequence → Bool
 has_content method version standards rows s =
-    bytes_eq s.method method && ((s.version == version) && (pointwise bytes_eq s.standards standards && same_rows s.rows rows))
+    bytes_eq s.method method && ((s.version == version)
+    && (pointwise bytes_eq s.standards standards && same_rows s.rows rows))
 
 -- whether the sequence of a name is there and has this content
 unfoldable pub is_kept : TablesState → List ℕ → List ℕ → ℕ → List (List ℕ) → List Row → Bool
@@ -216,7 +238,8 @@ other_planned tables name edition change = do
 
 -- what a sequence that is put is answered: its method and the version of it are judged, the sequences that it lists in
 -- their order, and then its rows in theirs; nothing changes where the kept one has the same content
-unfoldable pub sequence_planned : TablesState → List ℕ → ℕ → List ℕ → ℕ → List (List ℕ) → List AskedRow → Result Plan PlanError
+unfoldable pub sequence_planned : TablesState → List ℕ → ℕ → List ℕ → ℕ → List (List ℕ) → List AskedRow →
+    Result Plan PlanError
 sequence_planned tables name edition method version standards asked = do
   _ ← method_judged tables method version
   listed ← standards_judged tables name standards
@@ -266,7 +289,8 @@ planned tables (command.Draft name text) =
     if option_map_or (λ draft. bytes_eq draft text) (draft_of tables name) false then Ok plan.Unchanged
     else within_limits tables (change.Draft name text)
 planned tables (command.Freeze name version) = freeze_planned tables name version (draft_of tables name)
-planned tables (command.Sequence name edition method version standards rows) = sequence_planned tables name edition method version standards rows
+planned tables (command.Sequence name edition method version standards rows) =
+    sequence_planned tables name edition method version standards rows
 planned tables (command.Events name edition row events) = events_planned tables name edition row events
 planned tables (command.Rebind name edition version) = rebind_planned tables name edition version
 planned tables (command.Sign sequence number basis moment name meaning text) =
@@ -305,10 +329,12 @@ abbrev pub command_of : Change → Command
 command_of (change.Trace name signal) = command.Trace name signal
 command_of (change.Draft name text) = command.Draft name text
 command_of (change.Freeze name version) = command.Freeze name version
-command_of (change.Sequence name edition method version standards rows) = command.Sequence name edition method version standards (map asked_of rows)
+command_of (change.Sequence name edition method version standards rows) =
+    command.Sequence name edition method version standards (map asked_of rows)
 command_of (change.Events name edition row events) = command.Events name edition row events
 command_of (change.Rebind name edition version) = command.Rebind name edition version
-command_of (change.Sign sequence number basis moment name meaning text) = command.Sign sequence number basis moment name meaning text
+command_of (change.Sign sequence number basis moment name meaning text) =
+    command.Sign sequence number basis moment name meaning text
 
 -- the name of the trace that a change changes, if it changes one
 abbrev pub trace_changed : Change → Option (List ℕ)
@@ -359,13 +385,15 @@ PlansContent (Err e) = Unit {0}
 
 -- for each sequence of the tables, in their order, whether its basis rises
 abbrev pub rises_of : TablesState → Change → List Bool
-rises_of tables change = map (λ (e : NamedSequence). inputs_differ tables (carried tables change) e.name) tables.sequences
+rises_of tables change =
+    map (λ (e : NamedSequence). inputs_differ tables (carried tables change) e.name) tables.sequences
 
 -- the room of a change that makes this sequence, which stands there with its new basis
 abbrev pub made_room : TablesState → Change → List ℕ → Option Sequence → Option Room
 made_room tables change name None = None
 made_room tables change name (Some s) =
-    Some (sequence_room name (record s { basis = s.basis + (if inputs_differ tables (carried tables change) name then 1 else 0) }) (rises_of tables change))
+    let rises = inputs_differ tables (carried tables change) name in
+    Some (sequence_room name (record s { basis = s.basis + (if rises then 1 else 0) }) (rises_of tables change))
 
 -- the room that a change needs; none where it is no change of these tables
 unfoldable pub room_of : TablesState → Change → Option Room
@@ -373,10 +401,15 @@ room_of tables (change.Trace name signal) = Some (trace_room name (rises_of tabl
 room_of tables (change.Draft name text) = Some (draft_room name)
 room_of tables (change.Freeze name version) = Some (freeze_room name (rises_of tables (change.Freeze name version)))
 room_of tables (change.Sequence name edition method version standards rows) =
-    made_room tables (change.Sequence name edition method version standards rows) name (sequence_made tables (change.Sequence name edition method version standards rows))
+    made_room tables (change.Sequence name edition method version standards rows) name
+    (sequence_made tables (change.Sequence name edition method version standards rows))
 room_of tables (change.Events name edition row events) =
-    made_room tables (change.Events name edition row events) name (sequence_made tables (change.Events name edition row events))
+    made_room tables (change.Events name edition row events) name
+    (sequence_made tables (change.Events name edition row events))
 room_of tables (change.Rebind name edition version) =
-    made_room tables (change.Rebind name edition version) name (sequence_made tables (change.Rebind name edition version))
+    made_room tables (change.Rebind name edition version) name
+    (sequence_made tables (change.Rebind name edition version))
 room_of tables (change.Sign sequence number basis moment name meaning text) =
-    option_map (λ s. sign_room sequence (signature number basis moment name meaning text (inputs_in (bindings_of tables) s))) (sequence_of tables sequence)
+    option_map
+    (λ s. sign_room sequence (signature number basis moment name meaning text (inputs_in (bindings_of tables) s)))
+    (sequence_of tables sequence)

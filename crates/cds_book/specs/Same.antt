@@ -3,30 +3,13 @@ use Rattle.std.specs.Prelude.{ℕ, ◌==◌, ◌&&◌, Bool, List}
 use Rattle.std.specs.Bool.{beq}
 use Rattle.std.specs.Cmp.Lexicographic.{pointwise}
 use Rattle.std.specs.Str.{bytes_eq}
+use Rattle.cds_base.specs.EventParts.{EventParts, event_parts}
 use Rattle.cds_base.specs.declared.event.Event.{Event}
-use Rattle.cds_base.specs.declared.event.Event.TheVariants.{Inhibit, Valley, Drop, Baseline, Slope, Skim}
+use Rattle.cds_sign.specs.RowKinds.{kind_number}
 use Rattle.cds_sign.specs.declared.inputs.Inputs.{Inputs}
 use Rattle.cds_sign.specs.declared.inputs.Listed.{Listed}
 use Rattle.cds_sign.specs.declared.inputs.ListedRow.{ListedRow}
 use Rattle.cds_sign.specs.declared.row.Row.{Row}
-use Rattle.cds_sign.specs.declared.row.RowKind.{RowKind}
-use Rattle.cds_sign.specs.declared.row.RowKind.TheVariants.{Blank, Standard, Replicate, Sample}
-
--- an event by its kind and its numbers
-pub record EventParts : Type 0 where
-  pub kind : ℕ
-  pub first : ℕ
-  pub second : ℕ
-  pub third : ℕ
-
--- the kind of an event and its numbers in their order, 0 for one that it doesn't have
-abbrev pub event_parts : Event → EventParts
-event_parts (Inhibit from to) = record { kind = 0; first = from; second = to; third = 0 }
-event_parts (Valley from to) = record { kind = 1; first = from; second = to; third = 0 }
-event_parts (Drop at) = record { kind = 2; first = at; second = 0; third = 0 }
-event_parts (Baseline from to) = record { kind = 3; first = from; second = to; third = 0 }
-event_parts (Slope at on off) = record { kind = 4; first = at; second = on; third = off }
-event_parts (Skim from to) = record { kind = 5; first = from; second = to; third = 0 }
 
 -- parts are equal where each is
 abbrev pub same_parts : EventParts → EventParts → Bool
@@ -40,13 +23,6 @@ same_event a b = same_parts (event_parts a) (event_parts b)
 unfoldable pub same_events : List Event → List Event → Bool
 same_events a b = pointwise same_event a b
 
--- the number of a row's kind
-abbrev pub kind_number : RowKind → ℕ
-kind_number Blank = 0
-kind_number Standard = 1
-kind_number Replicate = 2
-kind_number Sample = 3
-
 -- amounts are equal where their names and their numbers are
 abbrev pub same_amount : List ℕ × ℕ → List ℕ × ℕ → Bool
 same_amount a b = bytes_eq a.0 b.0 && (a.1 == b.1)
@@ -54,8 +30,9 @@ same_amount a b = bytes_eq a.0 b.0 && (a.1 == b.1)
 -- rows are equal where all of their content is: two bindings of one trace differ though they name the same version
 unfoldable pub same_row : Row → Row → Bool
 same_row a b =
-    bytes_eq a.label b.label && ((kind_number a.kind == kind_number b.kind) && (bytes_eq a.trace b.trace && ((a.version == b.version)
-    && (beq a.used b.used && ((a.u == b.u) && ((a.v == b.v) && (pointwise same_amount a.amounts b.amounts && same_events a.events b.events)))))))
+    bytes_eq a.label b.label && ((kind_number a.kind == kind_number b.kind) && (bytes_eq a.trace b.trace
+    && ((a.version == b.version) && (beq a.used b.used && ((a.u == b.u) && ((a.v == b.v)
+    && (pointwise same_amount a.amounts b.amounts && same_events a.events b.events)))))))
 
 -- lists of rows are equal where each row is, in order
 unfoldable pub same_rows : List Row → List Row → Bool
@@ -64,14 +41,17 @@ same_rows a b = pointwise same_row a b
 -- what two standard rows give is equal where each part is
 unfoldable pub same_listed_row : ListedRow → ListedRow → Bool
 same_listed_row a b =
-    bytes_eq a.trace b.trace && ((a.version == b.version) && (beq a.used b.used && (pointwise same_amount a.amounts b.amounts && same_events a.events b.events)))
+    bytes_eq a.trace b.trace && ((a.version == b.version) && (beq a.used b.used
+    && (pointwise same_amount a.amounts b.amounts && same_events a.events b.events)))
 
 -- listed sequences are equal where their names, methods, versions and standard rows are
 unfoldable pub same_listed : Listed → Listed → Bool
 same_listed a b =
-    bytes_eq a.sequence b.sequence && (bytes_eq a.method b.method && ((a.version == b.version) && pointwise same_listed_row a.rows b.rows))
+    bytes_eq a.sequence b.sequence && (bytes_eq a.method b.method && ((a.version == b.version)
+    && pointwise same_listed_row a.rows b.rows))
 
 -- inputs are equal where their methods, versions, rows and listed sequences are
 unfoldable pub same_inputs : Inputs → Inputs → Bool
 same_inputs a b =
-    bytes_eq a.method b.method && ((a.version == b.version) && (same_rows a.rows b.rows && pointwise same_listed a.standards b.standards))
+    bytes_eq a.method b.method && ((a.version == b.version) && (same_rows a.rows b.rows
+    && pointwise same_listed a.standards b.standards))

@@ -102,7 +102,8 @@ sequence_of tables name = option_map (λ entry. entry.sequence) (sequence_named 
 
 -- the sequence at a place in byte order of the names, counted from 0, with its name
 abbrev pub sequence_at : TablesState → ℕ → Option (List ℕ × Sequence)
-sequence_at tables i = option_map (λ (entry : NamedSequence). (entry.name, entry.sequence)) (slice_get tables.sequences i)
+sequence_at tables i =
+    option_map (λ (entry : NamedSequence). (entry.name, entry.sequence)) (slice_get tables.sequences i)
 
 -- the signatures of a sequence, none where there is no such sequence
 unfoldable pub signatures_of : TablesState → List ℕ → List Signed

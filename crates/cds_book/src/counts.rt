@@ -45,8 +45,10 @@ fn rows_of(entries: &[Named<SignedSequence>]) -> u64
 // How many bytes the signed texts of the sequences have together.
 #[tactic(auto, using(std::proofs::lemmas::List::Sums::sum_by_more_le, std::proofs::lemmas::List::Sums::sum_by_more))]
 fn bytes_of(entries: &[Named<SignedSequence>]) -> u64
-    requires few { sum_by (λ (e : HeldSequence). sum_by (λ (s : SignedSeen). length s.text) e.value.signed.items) entries.now ≤ MOST_SIGNED_BYTES }
-    ensures { result ≡ sum_by (λ (e : HeldSequence). sum_by (λ (s : SignedSeen). length s.text) e.value.signed.items) entries.now }
+    requires few { sum_by (λ (e : HeldSequence). sum_by (λ (s : SignedSeen). length s.text) e.value.signed.items)
+        entries.now ≤ MOST_SIGNED_BYTES }
+    ensures { result
+        ≡ sum_by (λ (e : HeldSequence). sum_by (λ (s : SignedSeen). length s.text) e.value.signed.items) entries.now }
 {
     let mut sum = 0;
     for place in 0..entries.len() {

@@ -15,11 +15,13 @@ use cds_base::{Name, NoMemory};
 use cds_sign::{Inputs, Listed, ListedList, ListedRow, ListedRowList, Row, RowList, Sequence};
 
 impl Tables {
-    /// The inputs of a sequence: the method with its version, each row with the version of its trace, and of each sequence
-    /// that it lists the standard rows with theirs. It is refused with NoSequence exactly where there is no such sequence.
+    /// The inputs of a sequence: the method with its version, each row with the version of its trace, and of each
+    /// sequence that it lists the method and the standard rows, used or not, with theirs. It is refused with NoSequence
+    /// exactly where there is no such sequence, and with NoMemory where memory is wanting. The tables stay as they are.
     #[tactic(auto, unfolding(crate::specs::Held::bindings_over))]
     pub fn inputs(&self, sequence: Name) -> Result<Inputs, PlanError>
-        ensures { Gives WantsMemory (λ inputs. inputs) (ok_or (inputs_of self.now.state sequence) (NoSequence sequence)) result }
+        ensures { Gives WantsMemory (λ inputs. inputs)
+            (ok_or (inputs_of self.now.state sequence) (NoSequence sequence)) result }
     {
         let Some(inputs) = self.inputs_over(&Over::Nothing, sequence)? else {
             return Err(PlanError::NoSequence(sequence));
@@ -79,7 +81,8 @@ impl Tables {
 
     // What the sequences of these names give to those that list them.
     fn standards_listed(&self, over: &Over, names: &[Name]) -> Result<Vec<Listed>, NoMemory>
-        ensures { IfOk result (λ v. v.items ≡ filter_map (listed_of (bindings_over self.now.state over.now)) names.now) }
+        ensures { IfOk result (λ v.
+            v.items ≡ filter_map (listed_of (bindings_over self.now.state over.now)) names.now) }
     {
         let mut listed = Vec::new(*self.sequences.entries.allocator());
         for place in 0..names.len() {
@@ -110,7 +113,8 @@ impl Tables {
 
     // What the standard rows give.
     fn rows_listed(&self, over: &Over, rows: &[Row]) -> Result<Vec<ListedRow>, NoMemory>
-        ensures { IfOk result (λ v. v.items ≡ filter_map (row_listed (bindings_over self.now.state over.now)) rows.now) }
+        ensures { IfOk result (λ v.
+            v.items ≡ filter_map (row_listed (bindings_over self.now.state over.now)) rows.now) }
     {
         let mut listed = Vec::new(*self.sequences.entries.allocator());
         for place in 0..rows.len() {

@@ -150,9 +150,9 @@ impl Tables {
     }
 
     /// What a signature comes to before its text is made: Kept where the signature of this number is over the same
-    /// basis, by the same name and with the same meaning; else New. It is refused with NoSequence where there is no such
-    /// sequence; with Number where it isn't kept and its number isn't the next one; and then with Basis where the basis
-    /// isn't the kept one. Whether it would pass a limit is judged with its text. The tables stay as they are.
+    /// basis, by the same name and with the same meaning; else New. It is refused with NoSequence where there is no
+    /// such sequence; with Number where it isn't kept and its number isn't the next one; and then with Basis where the
+    /// basis isn't the kept one. Whether it would pass a limit is judged with its text. The tables stay as they are.
     #[tactic(auto, unfolding(crate::specs::Judged::sign_judged))]
     pub fn would_sign(
         &self,
@@ -162,7 +162,8 @@ impl Tables {
         name: &[u8],
         meaning: &[u8],
     ) -> Result<SignPlan, PlanError>
-        ensures { Gives NoMemory (λ p. p) (sign_judged self.now.state sequence basis number name.now meaning.now) result }
+        ensures { Gives NoMemory (λ p. p)
+            (sign_judged self.now.state sequence basis number name.now meaning.now) result }
     {
         let kept = self.judge_sequence(sequence)?.basis;
         if says_same(self.signed(sequence, number), basis, name, meaning) {

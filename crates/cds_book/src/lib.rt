@@ -37,9 +37,9 @@ pub use laws::{
     a_freeze_makes_the_version_named, a_frozen_version_is_the_draft, a_put_sequence_is_read_back,
     a_repeated_change_changes_nothing, a_repeated_signature_is_kept, a_sequence_may_list_itself,
     a_trace_is_read_back, a_trace_is_the_next_version, an_accepted_change_is_in_its_ranges,
-    an_accepted_change_raises_the_edition, an_accepted_freeze_is_numbered, method_versions_stay,
-    other_methods_stay, other_sequences_stay, other_traces_stay, rules_are_kept, signatures_stay,
-    the_limits, trace_versions_stay,
+    an_accepted_change_raises_the_edition, an_accepted_freeze_is_numbered, equal_inputs_are_told,
+    method_versions_stay, other_methods_stay, other_sequences_stay, other_traces_stay,
+    rules_are_kept, signatures_stay, the_limits, trace_versions_stay, unreached_inputs_stay,
 };
 pub use limits::{
     MOST_METHOD_VERSIONS, MOST_METHODS, MOST_ROWS_IN_ALL, MOST_SAMPLES_IN_ALL, MOST_SEQUENCES,
@@ -48,5 +48,7 @@ pub use limits::{
 pub use numbers::SequenceNumbers;
 pub use tables::Tables;
 
+#[cfg(test)]
+mod test_lines;
 #[cfg(test)]
 mod tests;

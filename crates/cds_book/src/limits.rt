@@ -1,6 +1,6 @@
 //! The limits of the tables, in the order in which they are judged, with those on the versions of one name and on the
-//! signatures of one sequence, which stand with what is asked. A change that would pass one is refused as full, with the
-//! limit. All are this project's own.
+//! signatures of one sequence, which stand with what is asked. A change that would pass one is refused as full, with
+//! the limit. All are this project's own.
 
 /// The most trace names.
 pub const MOST_TRACE_NAMES: u64 = 5_000;

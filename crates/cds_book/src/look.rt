@@ -1,4 +1,5 @@
-//! What the tables hold. Each look-up is None exactly where the thing isn't there, and takes no memory.
+//! What the tables hold. Each look-up is None exactly where the thing isn't there, takes no memory, and leaves the
+//! tables as they are.
 ghost use Rattle.std.specs.Prelude.{◌≡◌, ◌≤◌, length, option_copied, option_map, is_some, IfSome};
 ghost use Rattle.cds_book.specs.Kept.{IsTables};
 ghost use Rattle.cds_sign.specs.declared.limits.TheConstants.{MOST_SIGNATURES};
@@ -11,15 +12,17 @@ use cds_sign::{MOST_VERSIONS, Sequence, Signed};
 use cds_trace::Trace;
 
 impl Tables {
-    /// Hands up what all tables keep, whatever was done to them: names rise in byte order, each version differs from the
-    /// one before it, each text is a method, and no count passes its limit. It does nothing.
+    /// Hands up what all tables keep, whatever was done to them: names are names and rise in byte order, each trace is
+    /// a trace and each text a method, each version differs from the one before it, the parts of rows and signatures
+    /// are in their ranges, editions and bases are counted from 1, what sequences bind and list is there, and no count
+    /// passes its limit. It does nothing.
     pub fn rules(&self)
         ensures { IsTables self.now.state }
     {
         let _held = self.trace_versions;
     }
 
-    /// The version of a trace, counted from 1.
+    /// The version of a trace, counted from 1. None where the trace has no version of this number, as of 0.
     pub fn trace(&self, name: Name, version: u32) -> Option<&Trace>
         ensures { option_copied result ≡ trace_of self.now.state name version }
     {
@@ -29,7 +32,7 @@ impl Tables {
         numbered(versions, version)
     }
 
-    /// How many versions a trace name has, at least 1, which is the number of its latest version.
+    /// How many versions a trace name has, 1 to 1,000, which is the number of its latest version.
     pub fn trace_versions(&self, name: Name) -> Option<u32>
         ensures value { result ≡ trace_versions_of self.now.state name }
         ensures few { IfSome result (λ count. count ≤ MOST_VERSIONS) }
@@ -50,7 +53,7 @@ impl Tables {
         versions
     }
 
-    /// The text of a method's draft as it was sent.
+    /// The text of a method's draft as it was sent, also where it is frozen as a version already.
     pub fn draft(&self, name: Name) -> Option<&[u8]>
         ensures { option_copied result ≡ draft_of self.now.state name }
     {
@@ -60,7 +63,8 @@ impl Tables {
         Some(texts.draft.as_slice())
     }
 
-    /// The text of a method's version, counted from 1, as it was sent.
+    /// The text of a method's version, counted from 1, as it was sent. None where the method has no version of this
+    /// number, as of 0.
     pub fn method(&self, name: Name, version: u32) -> Option<&[u8]>
         ensures { option_copied result ≡ method_of self.now.state name version }
     {
@@ -73,7 +77,8 @@ impl Tables {
         Some(text.as_slice())
     }
 
-    /// How many versions a method has, which is the number of its latest version, or 0.
+    /// How many versions a method has, at most 1,000, which is the number of its latest version; 0 where it has a
+    /// draft alone.
     pub fn method_versions(&self, name: Name) -> Option<u32>
         ensures value { result ≡ method_versions_of self.now.state name }
         ensures few { IfSome result (λ count. count ≤ MOST_VERSIONS) }
@@ -101,7 +106,7 @@ impl Tables {
         self.draft(name).is_some()
     }
 
-    /// The sequence of a name.
+    /// The sequence of a name, with its edition and its basis, its method, listed sequences and rows as they were put.
     pub fn sequence(&self, name: Name) -> Option<&Sequence>
         ensures { option_copied result ≡ sequence_of self.now.state name }
     {
@@ -146,7 +151,8 @@ impl Tables {
         &kept.signed
     }
 
-    /// The signature of a sequence of this number, counted from 1.
+    /// The signature of a sequence of this number, counted from 1, with the inputs that it is over. None where there is
+    /// no such sequence, or no signature of this number, as of 0.
     pub fn signed(&self, sequence: Name, number: u32) -> Option<&Signed>
         ensures { option_copied result ≡ signed_of self.now.state sequence number }
     {

@@ -106,7 +106,8 @@ fn made_events(
     row: u32,
     events: &EventList,
 ) -> Result<Sequence, NoMemory>
-    ensures { IfOk result (λ s. s ≡ record kept.now { edition = edition; rows = with_events kept.now.rows row events.now }) }
+    ensures { IfOk result (λ s. s
+        ≡ record kept.now { edition = edition; rows = with_events kept.now.rows row events.now }) }
 {
     let standards = kept.standards.copy()?;
     let rows = rows_with(alloc, kept.rows.as_slice(), row, events)?;

@@ -20,8 +20,8 @@ pub struct SequenceNumbers {
 
 impl Tables {
     /// The numbers that the sequence of a change has once the change is carried out. The change must be one that `plan`
-    /// answers on these tables, and must be one of this sequence. The tables stay as they are. The only refusal is want of
-    /// memory.
+    /// answers on these tables, and must be one of this sequence. The tables stay as they are. The only refusal is want
+    /// of memory.
     pub fn numbers_after(&self, change: &Change, name: Name) -> Result<SequenceNumbers, NoMemory>
         requires accepted { Accepts self.now.state change.now }
         requires own { sequence_changed change.now ≡ Some name }

@@ -20,15 +20,15 @@ use cds_trace::Trace;
 
 impl Tables {
     /// What a command comes to: Unchanged where the tables are already as it asks, else a change, or the first refusal.
-    /// First the things that the path names are judged, which are the draft of a freeze (NoMethod), a sequence whose events
-    /// or binding are changed or that is signed (NoSequence), and the row of its events (NoRow). Then those that the body
-    /// names: a method (NoMethod), the version of it (NoVersion), the listed sequences in order (NoSequence), of which the
-    /// sequence itself may be one, and then for each row its trace (NoTrace), the version of it (NoVersion), its label
-    /// (TwoLabels) and its amounts (BadAmount). Then nothing changes where the trace is equal to the latest version of its
-    /// name, the text to the draft, the draft to the latest version, the content, the events or the binding to those kept,
-    /// or where the signature is kept, whatever number or edition is named. Then comes the conflict: Number, Edition, or of a
-    /// signature Number and then Basis. Full is judged last: of the limits in their order the first one that the tables with
-    /// the change would pass. The tables stay as they are.
+    /// First the things that the path names are judged, which are the draft of a freeze (NoMethod), a sequence whose
+    /// events or binding are changed or that is signed (NoSequence), and the row of its events (NoRow). Then those that
+    /// the body names: a method (NoMethod), the version of it (NoVersion), the listed sequences in order (NoSequence),
+    /// of which the sequence itself may be one, and then for each row its trace (NoTrace), the version of it
+    /// (NoVersion), its label (TwoLabels) and its amounts (BadAmount). Then nothing changes where the trace is equal to
+    /// the latest version of its name, the text to the draft, the draft to the latest version, the content, the events
+    /// or the binding to those kept, or where the signature is kept, whatever number or edition is named. Then comes
+    /// the conflict: Number, Edition, or of a signature Number and then Basis. Full is judged last: of the limits in
+    /// their order the first one that the tables with the change would pass. The tables stay as they are.
     pub fn plan(&self, command: &Command) -> Result<Plan, PlanError>
         requires { IsCommand command.now }
         ensures value { Gives NoMemory (λ p. p) (planned self.now.state command.now) result }
@@ -87,7 +87,8 @@ impl Tables {
 
     // The counts that a trace raises, with their limits.
     fn trace_counts(&self, name: Name, trace: &Trace) -> [(u64, u64); 4]
-        ensures { result ≡ counts_of (change.Trace name trace.now) (carried self.now.state (change.Trace name trace.now)) }
+        ensures { result
+            ≡ counts_of (change.Trace name trace.now) (carried self.now.state (change.Trace name trace.now)) }
     {
         let versions = self.signals(name);
         let names = self.traces.len() as u64 + u64::from(versions.is_empty());
@@ -117,7 +118,8 @@ impl Tables {
 
     // The count that a draft raises, with its limit.
     fn draft_counts(&self, name: Name, text: &Bytes) -> [(u64, u64); 1]
-        ensures { result ≡ counts_of (change.Draft name text.now) (carried self.now.state (change.Draft name text.now)) }
+        ensures { result
+            ≡ counts_of (change.Draft name text.now) (carried self.now.state (change.Draft name text.now)) }
     {
         let is_new = self.draft(name).is_none();
         [(self.methods.len() as u64 + u64::from(is_new), MOST_METHODS)]
@@ -147,7 +149,8 @@ impl Tables {
     // The counts that a freeze raises, with their limits.
     fn freeze_counts(&self, name: Name, version: u32) -> [(u64, u64); 2]
         requires { IsSome (draft_of self.now.state name) }
-        ensures { result ≡ counts_of (change.Freeze name version) (carried self.now.state (change.Freeze name version)) }
+        ensures { result
+            ≡ counts_of (change.Freeze name version) (carried self.now.state (change.Freeze name version)) }
     {
         let texts = self.texts(name);
         [

@@ -36,7 +36,8 @@ impl Tables {
         rows: &AskedRowList,
     ) -> Result<Plan, PlanError>
         requires few { length rows.now ≤ MOST_ROWS }
-        ensures { Gives WantsMemory (λ p. p) (sequence_planned self.now.state name edition method version standards.now rows.now) result }
+        ensures { Gives WantsMemory (λ p. p)
+            (sequence_planned self.now.state name edition method version standards.now rows.now) result }
     {
         self.judge_method(method, version)?;
         let standards = self.judge_standards(name, standards.as_slice())?;
@@ -158,7 +159,8 @@ impl Tables {
         text: &Bytes,
     ) -> Result<Plan, PlanError>
         requires short { length text.now < TEXT_LIMIT }
-        ensures { Gives WantsMemory (λ p. p) (signature_planned self.now.state sequence number basis moment name.now meaning.now text.now) result }
+        ensures { Gives WantsMemory (λ p. p)
+            (signature_planned self.now.state sequence number basis moment name.now meaning.now text.now) result }
     {
         let judged = self.would_sign(
             sequence,
@@ -186,7 +188,9 @@ impl Tables {
     ) -> Result<Plan, PlanError>
         requires short { length text.now < TEXT_LIMIT }
         requires there { IsSome (sequence_of self.now.state sequence) }
-        ensures { Gives WantsMemory (λ p. p) (within_limits self.now.state (change.Sign sequence number basis moment name.now meaning.now text.now)) result }
+        ensures { Gives WantsMemory (λ p. p)
+            (within_limits self.now.state (change.Sign sequence number basis moment name.now meaning.now text.now))
+            result }
     {
         if let Some(limit) = limit_passed(&self.sign_counts(sequence, text)) {
             return Err(PlanError::Full(limit));

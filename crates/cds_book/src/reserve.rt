@@ -3,6 +3,7 @@ ghost use Rattle.std.specs.Prelude.{◌≡◌, ◌≤◌, Some, None, OnOk, OnEr
 ghost use Rattle.cds_sign.specs.declared.limits.TheConstants.{MOST_BASIS};
 ghost use Rattle.cds_book.specs.Inputs.{bindings_of, inputs_in};
 ghost use Rattle.cds_book.specs.Plan.{room_of, made_room, sequence_made, signature, Accepts};
+ghost use Rattle.cds_book.specs.Raising.{Makes};
 ghost use Rattle.cds_book.specs.Tables.{trace_room, draft_room, freeze_room, sign_room, draft_of, sequence_of};
 
 use crate::over::Over;
@@ -15,8 +16,8 @@ use cds_sign::{Change, Sequence, Signed};
 
 impl Tables {
     /// Takes the memory that `apply` of this change needs, in place of that of an earlier call, and finds the sequences
-    /// whose inputs it makes others. The change must be one that `plan` answers on these tables. The only refusal is want of
-    /// memory; then no room is taken. What the tables hold stays.
+    /// whose inputs it makes others. The change must be one that `plan` answers on these tables. The only refusal is
+    /// want of memory; then no room is taken. What the tables hold stays.
     #[tactic(auto, unfolding(crate::specs::Plan::room_of))]
     pub fn reserve(&mut self, change: &Change) -> Result<(), NoMemory>
         requires { Accepts self.old.state change.now }
@@ -55,20 +56,26 @@ impl Tables {
         }
     }
 
-    // Takes the room for a sequence as a change makes it.
+    // Takes the room for a sequence as a change makes it. It is made once.
     fn reserve_sequence(&mut self, name: Name, change: &Change) -> Result<(), NoMemory>
         requires none { self.old.room ≡ None }
         requires made { IsSome (sequence_made self.old.state change.now) }
+        requires makes { Makes name change.now }
         ensures state { self.new.state ≡ self.old.state }
-        ensures ok { OnOk result (self.new.room ≡ made_room self.old.state change.now name (sequence_made self.old.state change.now)) }
+        ensures ok { OnOk result (self.new.room
+            ≡ made_room self.old.state change.now name (sequence_made self.old.state change.now)) }
         ensures err { OnErr result (self.new.room ≡ None) }
     {
         self.rules();
         let Some(made) = self.made(change)? else {
             unreachable!()
         };
-        let rises = self.rises(change)?;
-        let differs = self.inputs_differ(change, name)?;
+        let over = Over::Sequence(name, made);
+        let rises = self.rises_over(change, &over)?;
+        let differs = self.differs(change, &over, name)?;
+        let Over::Sequence(_, made) = over else {
+            unreachable!()
+        };
         let made = with_basis(made, differs);
         self.sequences.entries.reserve(1)?;
         self.room = Some(Taken::Sequence { name, made, rises });
@@ -89,7 +96,8 @@ impl Tables {
     ) -> Result<Signed, NoMemory>
         requires there { IsSome (sequence_of self.now.state sequence) }
         ensures { IfOk result (λ signed. Some signed ≡ option_map
-            (λ s. signature number basis moment name.now meaning.now text.now (inputs_in (bindings_of self.now.state) s))
+            (λ s. signature number basis moment name.now meaning.now text.now
+            (inputs_in (bindings_of self.now.state) s))
             (sequence_of self.now.state sequence)) }
     {
         let Some(inputs) = self.inputs_over(&Over::Nothing, sequence)? else {

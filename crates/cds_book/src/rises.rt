@@ -1,5 +1,5 @@
 //! Which bases rise: those of the sequences whose inputs a change makes other.
-ghost use Rattle.std.specs.Prelude.{◌≡◌, ◌<◌, Some, map, length, slice_get, option_map, IfOk};
+ghost use Rattle.std.specs.Prelude.{◌≡◌, ◌<◌, Some, length, slice_get, option_map, IfOk};
 ghost use Rattle.cds_book.specs.Held.{bindings_over};
 ghost use Rattle.cds_book.specs.Inputs.{bindings_of, inputs_by, inputs_of};
 ghost use Rattle.cds_book.specs.Plan.{are_others, carried, inputs_differ, rises_of, sequence_made, with_changed, with_frozen};
@@ -12,32 +12,32 @@ use cds_base::{Name, NoMemory};
 use cds_sign::{Change, Inputs};
 
 impl Tables {
-    /// Whether a change makes the inputs of a sequence others: true exactly where the sequence is there and its inputs now
-    /// differ from those after the change, so that its basis rises by one. The tables stay as they are.
-    #[tactic(auto, unfolding(crate::specs::Plan::inputs_differ))]
+    /// Whether a change makes the inputs of a sequence others: true exactly where the sequence is there and its inputs
+    /// now differ from those after the change, so that its basis rises by one. The tables stay as they are. The only
+    /// refusal is want of memory.
     pub fn inputs_differ(&self, change: &Change, name: Name) -> Result<bool, NoMemory>
         ensures { IfOk result (λ r. r ≡ inputs_differ self.now.state (carried self.now.state change.now) name) }
     {
         let over = self.over(change)?;
-        self.differs(&over, name)
+        self.differs(change, &over, name)
     }
 
     // For each sequence in their order whether a change raises its basis.
-    #[tactic(auto, unfolding(crate::specs::Plan::inputs_differ))]
     pub(crate) fn rises(&self, change: &Change) -> Result<Vec<bool>, NoMemory>
         ensures { IfOk result (λ v. v.items ≡ rises_of self.now.state change.now) }
     {
         let over = self.over(change)?;
-        self.rises_over(&over)
+        self.rises_over(change, &over)
     }
 
-    // For each sequence in their order whether its inputs become others once this is made other.
-    fn rises_over(&self, over: &Over) -> Result<Vec<bool>, NoMemory>
-        ensures { IfOk result (λ v. v.items ≡ map (λ (e : NamedSequence). are_others (inputs_of self.now.state e.name) (inputs_by (bindings_over self.now.state over.now) e.name)) self.now.state.sequences) }
+    // For each sequence in their order whether a change, which makes this other, raises its basis.
+    pub(crate) fn rises_over(&self, change: &Change, over: &Over) -> Result<Vec<bool>, NoMemory>
+        requires { bindings_over self.now.state over.now ≡ bindings_of (carried self.now.state change.now) }
+        ensures { IfOk result (λ v. v.items ≡ rises_of self.now.state change.now) }
     {
         let mut rises = Vec::new(*self.sequences.entries.allocator());
         for place in 0..self.sequence_count() {
-            let differs = self.differs(over, self.name_at(place))?;
+            let differs = self.differs(change, over, self.name_at(place))?;
             rises.push(differs)?;
         }
         Ok(rises)
@@ -53,7 +53,8 @@ impl Tables {
 
     // What a change makes other.
     pub(crate) fn over(&self, change: &Change) -> Result<Over, NoMemory>
-        ensures { IfOk result (λ over. bindings_over self.now.state over ≡ bindings_of (carried self.now.state change.now)) }
+        ensures { IfOk result (λ over.
+            bindings_over self.now.state over ≡ bindings_of (carried self.now.state change.now)) }
     {
         match change {
             Change::Trace { name, .. } => Ok(Over::Trace(*name)),
@@ -68,7 +69,8 @@ impl Tables {
 
     // What a freeze makes other.
     fn over_freeze(&self, name: Name) -> Over
-        ensures { bindings_over self.now.state result ≡ bindings_of (with_frozen self.now.state name (draft_of self.now.state name)) }
+        ensures { bindings_over self.now.state result
+            ≡ bindings_of (with_frozen self.now.state name (draft_of self.now.state name)) }
     {
         if self.has_draft(name) {
             Over::Method(name)
@@ -79,7 +81,8 @@ impl Tables {
 
     // What a change that makes a sequence of this name makes other.
     fn over_made(&self, name: Name, change: &Change) -> Result<Over, NoMemory>
-        ensures { IfOk result (λ over. bindings_over self.now.state over ≡ bindings_of (with_changed self.now.state name (sequence_made self.now.state change.now))) }
+        ensures { IfOk result (λ over. bindings_over self.now.state over
+            ≡ bindings_of (with_changed self.now.state name (sequence_made self.now.state change.now))) }
     {
         let Some(made) = self.made(change)? else {
             return Ok(Over::Nothing);
@@ -87,12 +90,13 @@ impl Tables {
         Ok(Over::Sequence(name, made))
     }
 
-    // Whether the inputs of a sequence that is there become others once this is made other. They are built only where they
-    // may.
-    fn differs(&self, over: &Over, name: Name) -> Result<bool, NoMemory>
-        ensures { IfOk result (λ r. r ≡ are_others (inputs_of self.now.state name) (inputs_by (bindings_over self.now.state over.now) name)) }
+    // Whether the inputs of a sequence that is there become others by a change, which makes this other. They are built
+    // only where the change reaches the sequence.
+    pub(crate) fn differs(&self, change: &Change, over: &Over, name: Name) -> Result<bool, NoMemory>
+        requires { bindings_over self.now.state over.now ≡ bindings_of (carried self.now.state change.now) }
+        ensures { IfOk result (λ r. r ≡ inputs_differ self.now.state (carried self.now.state change.now) name) }
     {
-        if self.is_reached(over, name) {
+        if self.is_reached(change, name) {
             return self.compare(over, name);
         }
         Ok(false)
@@ -101,7 +105,8 @@ impl Tables {
     // Whether the inputs of a sequence that is there and those once this is made other differ.
     #[tactic(auto, unfolding(crate::specs::Held::bindings_over))]
     fn compare(&self, over: &Over, name: Name) -> Result<bool, NoMemory>
-        ensures { IfOk result (λ r. r ≡ are_others (inputs_of self.now.state name) (inputs_by (bindings_over self.now.state over.now) name)) }
+        ensures { IfOk result (λ r. r
+            ≡ are_others (inputs_of self.now.state name) (inputs_by (bindings_over self.now.state over.now) name)) }
     {
         let before = self.inputs_over(&Over::Nothing, name)?;
         let after = self.inputs_over(over, name)?;

@@ -10,8 +10,11 @@ use std::marker::Model;
 
 /// The tables: traces under their names in versions, and methods with a draft and frozen versions, all numbered
 /// from 1, and sequences with their signatures. They hold texts as they were sent, the samples that they state, and no
-/// result. Seen as what they hold, and as the room that was taken for a change. Whatever was done to them, names rise in byte
-/// order, each version differs from the one before it, each text is a method, and no count passes its limit.
+/// result. Seen as what they hold, and as the room that was taken for a change. Whatever was done to them, they keep
+/// their rules: names are names and rise in byte order, each trace is a trace and each text a method, each version
+/// differs from the one before it, the parts of rows and signatures are in their ranges, signatures are numbered from
+/// 1, editions and bases are counted from 1 and no basis is past the number of all changes, what sequences bind and
+/// list is there, and no count passes its limit.
 #[derive(Debug, Drop)]
 pub struct Tables {
     /// The versions of each trace name.
@@ -26,6 +29,7 @@ pub struct Tables {
     pub(crate) method_versions: u64,
     /// The sequences with their signatures.
     pub(crate) sequences: NamedList<SignedSequence>,
+    /// The room that `reserve` took last, if nothing was carried out since.
     pub(crate) room: Option<Taken>,
 }
 

@@ -1,26 +1,10 @@
 //! What commands come to on tables, and the limits of tables at their edges. Each line asks for something, and says
 //! behind `->` what it comes to: `changed`, `unchanged`, or the number of a refusal with what it shows.
-ghost use Rattle.std.specs.Prelude.{◌≡◌, ◌≤◌, true, All, IfOk, length, map};
-ghost use Rattle.cds_base.specs.EventRange.{EventRanges};
-ghost use Rattle.cds_sign.specs.Printed.{is_printed};
-ghost use Rattle.cds_sign.specs.Ranges.{AreAmountNames, AreStandards, IsAskedRow};
-ghost use Rattle.cds_sign.specs.declared.limits.TheConstants.{MOST_EDITION, MOST_ROWS, MOST_VERSIONS};
-ghost use Rattle.cds_book.specs.Plan.{Accepts, IsCommand};
-
-use crate::{Change, Command, MOST_VERSIONS, Plan, PlanError, Tables};
-use cds_base::{Bytes, Event, EventList, Name, Text};
-use cds_rules::Method;
-use cds_sign::{
-    AskedAmountList, AskedRow, AskedRowList, MOST_EDITION, MOST_ROWS, NameList, RowKind, is_printed,
-};
-use cds_trace::Trace;
+use crate::test_lines::{ask, name, put, refusal};
+use crate::{PlanError, Tables};
 use std::alloc::Global;
 use std::process::Abort;
 use std::test::Fail;
-
-/// A method, but for the number of its plateau.
-const METHOD: &str =
-    "bunch = 1\nslope_on = 5\nslope_off = 5\nfuse = 2\nmin_area = 1\nmin_height = 1\nweight = \"equal\"\nplateau = ";
 
 /// A trace is put under a name: its samples.
 const TRACES: &str = r#"put m 7 7 -> changed
@@ -103,6 +87,23 @@ see b1 now -> edition 2 basis 1
 rebind b1 1 1 -> unchanged
 "#;
 
+/// What the results of `b2` rest on: 0 is resolved to the latest version, also of the listed sequence, which gives its
+/// standards alone, the unused one too. Each change foretells what it then comes to.
+const INPUTS: &str = r#"put two 7 7 -> changed
+put two 7 8 -> changed
+sequence b1 1 m 0 b1 S1,standard,one,0,16 S2,unused,two,1,8 X1,sample,one,0, -> changed
+sequence b2 0 m 1 b1 X1,sample,fix,0, X2,sample,two,2, -> changed
+inputs b2 now -> m1 X1:fix1 X2:two2 | b1 m1 one1 two1-
+put one 7 9 -> changed
+inputs b2 now -> m1 X1:fix1 X2:two2 | b1 m1 one2 two1-
+draft m 4 -> changed
+freeze m 2 -> changed
+inputs b2 now -> m1 X1:fix1 X2:two2 | b1 m2 one2 two1-
+inputs b1 now -> m2 S1:one2 S2:two1 X1:one2 | b1 m2 one2 two1-
+rebind b1 2 1 -> changed
+inputs b2 now -> m1 X1:fix1 X2:two2 | b1 m1 one2 two1-
+"#;
+
 /// A signature is over the basis that is kept, and stays.
 const SIGNED: &str = r#"put one 7 7 -> changed
 put one 7 8 -> changed
@@ -118,6 +119,12 @@ see b1 now -> edition 1 basis 5
 sign b1 1 4 who why -> unchanged
 sign b1 1 4 who else -> 9 2
 sign b1 2 4 who why -> 8 5
+"#;
+
+/// Behind 5,000 rows there is no room for another one, but in place of those that a sequence had there is.
+const FULL_OF_ROWS: &str = r#"sequence more 0 m 1 b1 X1,sample,one,0, -> 10 5000
+sequence n7 1 m 1 b1 X1,sample,one,0, -> changed
+sequence more 0 m 1 b1 X1,sample,one,0, -> changed
 "#;
 
 /// The things that a path names are judged first, then those of the body in their order, then the conflict.
@@ -161,7 +168,7 @@ fn a_basis_rises_with_the_inputs(rt: HostRuntime) -> Result<(), Fail> {
 
 #[test]
 fn a_sequence_is_changed_signed_and_refused(rt: HostRuntime) -> Result<(), Fail> {
-    for lines in [OTHER_BINDING, SIGNED, REFUSED] {
+    for lines in [OTHER_BINDING, INPUTS, SIGNED, REFUSED] {
         tell_from_empty(&rt, rt.alloc(), &[BEFORE, lines])?;
     }
     Ok(())
@@ -228,6 +235,18 @@ fn sequences_are_at_most_500(rt: HostRuntime) -> Result<(), Fail> {
     let behind =
         "sequence more 0 m 1 b1 X1,sample,one,0, -> 10 500\nsequence n7 1 m 1 b1 X2,sample,one,0, -> changed\n";
     tell_at_limit(&rt, rt.alloc(), &[BEFORE], (499, 1, each), behind)
+}
+
+#[test]
+fn rows_are_at_most_5000_in_all(rt: HostRuntime) -> Result<(), Fail> {
+    let alloc = rt.alloc();
+    let mut tables = Tables::new(alloc);
+    tell_all(&rt, alloc, &mut tables, &[BEFORE])?;
+    let most = with_rows(alloc, 200)?;
+    fill(alloc, &mut tables, (24, 1, most.as_str()))?;
+    let last = with_rows(alloc, 197)?;
+    change_each(alloc, &mut tables, 24, 1, last.as_str())?;
+    tell(&rt, alloc, &mut tables, FULL_OF_ROWS)
 }
 
 #[test]
@@ -316,6 +335,16 @@ fn filled(alloc: Global, name: u32, version: u32, line: &str) -> Result<String, 
     Ok(format!(in alloc; "{before}n{name}{between}{version}{behind}")?)
 }
 
+// A line that puts a sequence of so many rows.
+fn with_rows(alloc: Global, count: u32) -> Result<String, Fail> {
+    let mut line = String::from_str(alloc, "sequence # 0 m % b1")?;
+    for row in 0..count {
+        let row = format!(in alloc; " X{row},sample,one,0,")?;
+        line.push_str(row.as_str())?;
+    }
+    Ok(line)
+}
+
 // Puts traces of all but 2 of the samples that the tables may hold, and then one of too many.
 fn put_most(rt: &impl Abort, alloc: Global, tables: &mut Tables) -> Result<(), Fail> {
     for time in 0..199 {
@@ -343,373 +372,4 @@ fn put_many(
     let told = put(alloc, tables, name("m")?, &vec![in alloc; sample; count]?)?;
     assert_eq!(rt; told.as_str(), want);
     Ok(())
-}
-
-// Carries out what a line asks for, and tells what it comes to.
-fn ask(alloc: Global, tables: &mut Tables, asked: &str) -> Result<String, Fail> {
-    let (kind, rest) = part(asked, ' ')?;
-    let (spelled, rest) = part(rest, ' ')?;
-    let name = name(spelled)?;
-    if kind == "put" {
-        return put(alloc, tables, name, &numbers(alloc, rest)?);
-    }
-    if kind == "draft" {
-        return draft(alloc, tables, name, rest);
-    }
-    if kind == "freeze" {
-        return freeze(alloc, tables, name, rest);
-    }
-    if kind == "versions" {
-        return versions(alloc, tables, name);
-    }
-    ask_of_sequence(alloc, tables, kind, name, rest)
-}
-
-// Carries out what is asked of a sequence.
-fn ask_of_sequence(
-    alloc: Global,
-    tables: &mut Tables,
-    kind: &str,
-    name: Name,
-    rest: &str,
-) -> Result<String, Fail> {
-    if kind == "sequence" {
-        return sequence(alloc, tables, name, rest);
-    }
-    if kind == "events" {
-        return events(alloc, tables, name, rest);
-    }
-    if kind == "rebind" {
-        return rebind(alloc, tables, name, rest);
-    }
-    if kind == "sign" {
-        return sign(alloc, tables, name, rest);
-    }
-    see(alloc, tables, name)
-}
-
-// The part before the first one of a character, and the part behind it.
-fn part(text: &str, by: char) -> Result<(&str, &str), Fail> {
-    Ok(text.split_once(by).ok_or("a line has more parts")?)
-}
-
-// The name that a text spells.
-fn name(text: &str) -> Result<Name, Fail> {
-    Ok(Name::new(text.as_bytes()).ok_or("no name")?)
-}
-
-fn numbers(alloc: Global, text: &str) -> Result<Vec<i32>, Fail> {
-    let mut numbers = Vec::new(alloc);
-    for word in text.split_whitespace() {
-        numbers.push(word.parse::<i32>()?)?;
-    }
-    Ok(numbers)
-}
-
-// Puts a trace of these samples.
-fn put(alloc: Global, tables: &mut Tables, name: Name, samples: &[i32]) -> Result<String, Fail> {
-    let trace = Trace::from_samples(alloc, 1000, samples)?;
-    let (_name, _count) = (name.as_bytes(), trace.len());
-    carry_out(alloc, tables, &Command::Trace { name, trace })
-}
-
-// Puts the method with this plateau as a draft.
-fn draft(alloc: Global, tables: &mut Tables, name: Name, plateau: &str) -> Result<String, Fail> {
-    let text = format!(in alloc; "{METHOD}{plateau}")?;
-    Method::read_toml(alloc, text.as_bytes())?;
-    let text = Bytes::from_vec(Vec::from_slice(alloc, text.as_bytes())?);
-    let _name = name.as_bytes();
-    if text.len() >= 65_536 {
-        return Err(Fail::from("a method is short"));
-    }
-    carry_out(alloc, tables, &Command::Draft { name, text })
-}
-
-// Freezes the draft of a method.
-fn freeze(alloc: Global, tables: &mut Tables, name: Name, version: &str) -> Result<String, Fail> {
-    let version = version.parse::<u32>()?;
-    let _name = name.as_bytes();
-    carry_out(alloc, tables, &Command::Freeze { name, version })
-}
-
-// How many versions a trace has.
-fn versions(alloc: Global, tables: &Tables, name: Name) -> Result<String, Fail> {
-    match tables.trace_versions(name) {
-        Some(count) => Ok(format!(in alloc; "{count}")?),
-        None => Ok(String::from_str(alloc, "none")?),
-    }
-}
-
-// Puts a sequence, which lists one sequence.
-fn sequence(alloc: Global, tables: &mut Tables, named: Name, text: &str) -> Result<String, Fail> {
-    let (edition, rest) = part(text, ' ')?;
-    let (method, rest) = part(rest, ' ')?;
-    let (version, rest) = part(rest, ' ')?;
-    let (standard, rest) = part(rest, ' ')?;
-    let edition = edition_of(edition)?;
-    let version = version_of(version)?;
-    let standards = standards_of(alloc, standard)?;
-    let rows = rows_of(alloc, rest)?;
-    let method = name(method)?;
-    let (_named, _method) = (named.as_bytes(), method.as_bytes());
-    carry_out(
-        alloc,
-        tables,
-        &Command::Sequence {
-            name: named,
-            edition,
-            method,
-            version,
-            standards,
-            rows,
-        },
-    )
-}
-
-fn edition_of(text: &str) -> Result<u64, Fail>
-    ensures { IfOk result (λ edition. edition ≤ MOST_EDITION) }
-{
-    let edition = text.parse::<u64>()?;
-    if edition > MOST_EDITION {
-        return Err(Fail::from("no edition"));
-    }
-    Ok(edition)
-}
-
-fn version_of(text: &str) -> Result<u32, Fail>
-    ensures { IfOk result (λ version. version ≤ MOST_VERSIONS) }
-{
-    let version = text.parse::<u32>()?;
-    if version > MOST_VERSIONS {
-        return Err(Fail::from("no version"));
-    }
-    Ok(version)
-}
-
-fn standards_of(alloc: Global, text: &str) -> Result<NameList, Fail>
-    ensures { IfOk result AreStandards }
-{
-    let listed = name(text)?;
-    let _listed = listed.as_bytes();
-    let mut names = Vec::new(alloc);
-    names.push(listed)?;
-    Ok(NameList::from_vec(names))
-}
-
-fn rows_of(alloc: Global, text: &str) -> Result<AskedRowList, Fail>
-    ensures some { IfOk result (λ rows. 1 ≤ length rows) }
-    ensures few { IfOk result (λ rows. length rows ≤ MOST_ROWS) }
-    ensures each { IfOk result (All IsAskedRow) }
-{
-    let rows = each_row(alloc, text)?;
-    if rows.is_empty() || rows.len() > MOST_ROWS {
-        return Err(Fail::from("no rows"));
-    }
-    Ok(AskedRowList::from_vec(rows))
-}
-
-fn each_row(alloc: Global, text: &str) -> Result<Vec<AskedRow>, Fail>
-    ensures { IfOk result (λ rows. All IsAskedRow rows.items) }
-{
-    let mut rows = Vec::new(alloc);
-    for word in text.split_whitespace() {
-        let row = row_of(alloc, word)?;
-        rows.push(row)?;
-    }
-    Ok(rows)
-}
-
-// A row: its label, its kind, its trace with the version, and its amount, if it states one. `unused` is the kind of a
-// standard that isn't used.
-fn row_of(alloc: Global, text: &str) -> Result<AskedRow, Fail>
-    ensures { IfOk result IsAskedRow }
-{
-    let (label, rest) = part(text, ',')?;
-    let (kind, rest) = part(rest, ',')?;
-    let (trace, rest) = part(rest, ',')?;
-    let (version, amount) = part(rest, ',')?;
-    let (label, trace) = (name(label)?, name(trace)?);
-    let (_label, _trace) = (label.as_bytes(), trace.as_bytes());
-    let version = version_of(version)?;
-    let amounts = amounts_of(alloc, amount)?;
-    Ok(AskedRow {
-        label,
-        kind: kind_of(kind),
-        trace,
-        version,
-        used: kind != "unused",
-        u: 1,
-        v: 1,
-        amounts,
-        events: EventList::from_vec(Vec::new(alloc)),
-    })
-}
-
-fn kind_of(text: &str) -> RowKind {
-    if text == "standard" || text == "unused" {
-        return RowKind::Standard;
-    }
-    if text == "replicate" {
-        return RowKind::Replicate;
-    }
-    RowKind::Sample
-}
-
-fn amounts_of(alloc: Global, text: &str) -> Result<AskedAmountList, Fail>
-    ensures { IfOk result (λ amounts. AreAmountNames (map (λ a. a.0) amounts)) }
-{
-    if text == "" {
-        return Ok(AskedAmountList::from_vec(Vec::new(alloc)));
-    }
-    let component = name("caf")?;
-    let _component = component.as_bytes();
-    let mut amounts = Vec::new(alloc);
-    amounts.push((component, text.parse::<i64>()?))?;
-    Ok(AskedAmountList::from_vec(amounts))
-}
-
-// Puts one manual event of a row.
-fn events(alloc: Global, tables: &mut Tables, name: Name, text: &str) -> Result<String, Fail> {
-    let (edition, rest) = part(text, ' ')?;
-    let (row, rest) = part(rest, ' ')?;
-    let (from, to) = part(rest, ' ')?;
-    let edition = edition_of(edition)?;
-    let row = row.parse::<u32>()?;
-    let events = events_of(alloc, from.parse::<u32>()?, to.parse::<u32>()?)?;
-    let _name = name.as_bytes();
-    carry_out(
-        alloc,
-        tables,
-        &Command::Events {
-            name,
-            edition,
-            row,
-            events,
-        },
-    )
-}
-
-fn events_of(alloc: Global, from: u32, to: u32) -> Result<EventList, Fail>
-    ensures { IfOk result EventRanges }
-{
-    let event = Event::Inhibit { from, to };
-    if !event.is_in_range() {
-        return Err(Fail::from("no event"));
-    }
-    let mut events = Vec::new(alloc);
-    events.push(event)?;
-    Ok(EventList::from_vec(events))
-}
-
-// Binds a sequence to a version of its method.
-fn rebind(alloc: Global, tables: &mut Tables, name: Name, text: &str) -> Result<String, Fail> {
-    let (edition, version) = part(text, ' ')?;
-    let edition = edition_of(edition)?;
-    let version = version_of(version)?;
-    let _name = name.as_bytes();
-    carry_out(
-        alloc,
-        tables,
-        &Command::Rebind {
-            name,
-            edition,
-            version,
-        },
-    )
-}
-
-// Signs a sequence.
-fn sign(alloc: Global, tables: &mut Tables, sequence: Name, text: &str) -> Result<String, Fail> {
-    let (number, rest) = part(text, ' ')?;
-    let (basis, rest) = part(rest, ' ')?;
-    let (name, meaning) = part(rest, ' ')?;
-    let number = number.parse::<u32>()?;
-    let basis = basis.parse::<u64>()?;
-    let (name, meaning) = (printed(alloc, name)?, printed(alloc, meaning)?);
-    let _sequence = sequence.as_bytes();
-    let text = Bytes::from_vec(Vec::new(alloc));
-    if number < 1 || number > 101 || basis < 1 || basis > 1000 {
-        return Err(Fail::from("no number"));
-    }
-    carry_out(
-        alloc,
-        tables,
-        &Command::Sign {
-            sequence,
-            number,
-            basis,
-            moment: 0,
-            name,
-            meaning,
-            text,
-        },
-    )
-}
-
-fn printed(alloc: Global, text: &str) -> Result<Text, Fail>
-    ensures { IfOk result (λ text. is_printed text ≡ true) }
-{
-    if !is_printed(text.as_bytes()) {
-        return Err(Fail::from("no printed text"));
-    }
-    Ok(Text::from_string(String::from_str(alloc, text)?))
-}
-
-// The edition and the basis of a sequence.
-fn see(alloc: Global, tables: &Tables, name: Name) -> Result<String, Fail> {
-    let sequence = tables.sequence(name).ok_or("no sequence")?;
-    let (edition, basis) = (sequence.edition, sequence.basis);
-    Ok(format!(in alloc; "edition {edition} basis {basis}")?)
-}
-
-// Plans a command, carries its change out, and tells what it comes to.
-fn carry_out(alloc: Global, tables: &mut Tables, command: &Command) -> Result<String, Fail>
-    requires { IsCommand command.now }
-{
-    let change = match tables.plan(command) {
-        Ok(Plan::Change(change)) => change,
-        Ok(Plan::Unchanged) => return Ok(String::from_str(alloc, "unchanged")?),
-        Err(error) => return refusal(alloc, error),
-    };
-    change_by(tables, change)?;
-    Ok(String::from_str(alloc, "changed")?)
-}
-
-fn change_by(tables: &mut Tables, change: Change) -> Result<(), Fail>
-    requires { Accepts tables.old.state change }
-{
-    tables.reserve(&change)?;
-    tables.apply(change);
-    Ok(())
-}
-
-// The number of a refusal, and what it shows.
-fn refusal(alloc: Global, error: PlanError) -> Result<String, Fail> {
-    let number = error.number().ok_or("no memory")?;
-    match error {
-        PlanError::NoTrace(name) => named_refusal(alloc, number, name),
-        PlanError::NoMethod(name) => named_refusal(alloc, number, name),
-        PlanError::NoVersion(name) => named_refusal(alloc, number, name),
-        PlanError::NoSequence(name) => named_refusal(alloc, number, name),
-        PlanError::TwoLabels(name) => named_refusal(alloc, number, name),
-        _ => Ok(format!(in alloc; "{number} {}", number_shown(error))?),
-    }
-}
-
-fn named_refusal(alloc: Global, number: u32, name: Name) -> Result<String, Fail> {
-    let shown = str::from_utf8(name.as_bytes())?;
-    Ok(format!(in alloc; "{number} {shown}")?)
-}
-
-fn number_shown(error: PlanError) -> u64 {
-    match error {
-        PlanError::NoRow(row) => u64::from(row),
-        PlanError::NoRecord(number) => u64::from(number),
-        PlanError::Edition(kept) => kept,
-        PlanError::Basis(kept) => kept,
-        PlanError::Number(next) => u64::from(next),
-        PlanError::Full(limit) => limit,
-        PlanError::BadAmount(row) => u64::from(row),
-        _ => 0,
-    }
 }

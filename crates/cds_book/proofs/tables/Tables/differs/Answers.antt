@@ -1,7 +1,16 @@
-use Rattle.std.proofs.Common.{sym}
-use Rattle.cds_book.proofs.RaisedLaws.{others-self}
+use Rattle.std.proofs.Common.{◌≡◌, ◌∙◌, sym, subst}
+use Rattle.std.specs.Prelude.{IfOk}
+use Rattle.cds_book.specs.Inputs.{Bindings, inputs_by, inputs_of}
+use Rattle.cds_book.specs.Plan.{are_others, inputs_differ}
+use Rattle.cds_book.proofs.ReachLaws.{differ-unreached}
 use Rattle.cds_book.proofs.tables.Tables.differs.Goals as goal
 
--- inputs that stay don't differ
+pub returns-then-is_reached : goal.returns-then-is_reached
+unfolding inputs_differ
+returns-then-is_reached c = subst (λ (b : Bindings). IfOk c.compare.result
+    (λ r. r ≡ are_others (inputs_of c.args.self.now.state c.args.name) (inputs_by b c.args.name)))
+    c.requires c.compare.ensures
+
 pub returns : goal.returns
-returns c = rw (c.is_reached.ensures c.if-is_reached.false) (sym (others-self _))
+returns c = sym (differ-unreached c.args.self.now.state c.args.change.now c.args.name
+    (sym c.is_reached.ensures ∙ c.if-is_reached.false))

@@ -1,4 +1,4 @@
-use Rattle.std.proofs.Common.{refl, arith}
+use Rattle.std.proofs.Common.{arith}
 use Rattle.cds_book.proofs.EditionLaws.{few-before, numbers-after}
 use Rattle.cds_book.proofs.tables.Tables.numbers_after.Goals as goal
 

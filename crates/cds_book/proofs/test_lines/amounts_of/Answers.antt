@@ -3,7 +3,7 @@ use Rattle.std.specs.List.Sorted.{IsStrictlySortedBy}
 use Rattle.std.proofs.lemmas.List.Elements.{All-nil, All-cons}
 use Rattle.cds_base.specs.NameText.{IsName}
 use Rattle.cds_sign.specs.Ranges.{AreAmountNames}
-use Rattle.cds_book.proofs.tests.amounts_of.Goals as goal
+use Rattle.cds_book.proofs.test_lines.amounts_of.Goals as goal
 
 -- no amount, and one
 none : AreAmountNames []

@@ -3,7 +3,7 @@ use Rattle.std.specs.List.{IsDistinct}
 use Rattle.std.proofs.lemmas.List.Elements.{All-nil, All-cons}
 use Rattle.cds_base.specs.NameText.{IsName}
 use Rattle.cds_sign.specs.Ranges.{AreStandards}
-use Rattle.cds_book.proofs.tests.standards_of.Goals as goal
+use Rattle.cds_book.proofs.test_lines.standards_of.Goals as goal
 
 -- one sequence is listed
 one : (name : List ℕ) → IsName name → AreStandards (name ∷ [])

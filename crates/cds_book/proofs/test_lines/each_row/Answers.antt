@@ -1,7 +1,7 @@
 use Rattle.std.proofs.Common.{[]}
 use Rattle.std.proofs.lemmas.List.Elements.{All-nil, All-cons, All-append}
 use Rattle.cds_sign.specs.Ranges.{IsAskedRow}
-use Rattle.cds_book.proofs.tests.each_row.Goals as goal
+use Rattle.cds_book.proofs.test_lines.each_row.Goals as goal
 
 pub loop-word-preserved : goal.loop-word-preserved
 loop-word-preserved c =
