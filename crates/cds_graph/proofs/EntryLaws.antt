@@ -14,9 +14,8 @@ use Rattle.cds_book.specs.Same.{same_inputs}
 use Rattle.cds_book.specs.Tables.{TablesState}
 use Rattle.cds_book.proofs.SameLaws.{same_inputs-Decides}
 use Rattle.cds_graph.specs.declared.entry.Entry.{Entry}
-use Rattle.cds_graph.specs.Building.{AreSequences}
+use Rattle.cds_graph.specs.Building.{AreSequences, IsRightSequence}
 use Rattle.cds_graph.specs.Found.{FoundSequence, found_of}
-use Rattle.cds_graph.specs.Held.{results_shown}
 use Rattle.cds_graph.specs.HeldGraph.{entry_shown, sequences_shown}
 use Rattle.cds_graph.specs.Kept.{KeptSequence, sequence_with}
 use Rattle.cds_graph.specs.Recorded.{recorded_of}
@@ -30,19 +29,15 @@ pub entry-kept : (t : TablesState) (kept : List (Rc Entry Global)) (name : List 
 entry-kept t [] name inputs found right is = cc
 entry-kept t (e ∷ es) name inputs found right is =
     by_test (bytes_eq e.value.name name && same_inputs e.value.inputs inputs) refl is
-    (All-head (λ (s : KeptSequence). s.results ≡ eval t s.inputs) (entry_shown e.value) (sequences_shown es) right)
+    (All-head (IsRightSequence t) (entry_shown e.value) (sequences_shown es) right)
     (entry-kept t es name inputs found
-    (All-tail (λ (s : KeptSequence). s.results ≡ eval t s.inputs) (entry_shown e.value) (sequences_shown es) right))
+    (All-tail (IsRightSequence t) (entry_shown e.value) (sequences_shown es) right))
   where
     Later : Option (Rc Entry Global)
     Later = find (λ (x : Rc Entry Global). bytes_eq x.value.name name && same_inputs x.value.inputs inputs) es
 
-    made : (n m : List ℕ) (i j : Inputs) (r : Results) → n ≡ m → i ≡ j → r ≡ eval t i →
-        let one : KeptSequence = record { name = n; inputs = i; results = r } in one ≡ sequence_with t m j
-    made n m i j r named same is = rw (named, is, same) refl
-
     by_test : (b : Bool) → (bytes_eq e.value.name name && same_inputs e.value.inputs inputs) ≡ b →
-        cond b (Some e) Later ≡ Some found → results_shown e.value.node ≡ eval t e.value.inputs →
+        cond b (Some e) Later ≡ Some found → IsRightSequence t (entry_shown e.value) →
         (Later ≡ Some found → entry_shown found.value ≡ sequence_with t name inputs) →
         entry_shown found.value ≡ sequence_with t name inputs
     by_test true same is right later =
@@ -50,14 +45,14 @@ entry-kept t (e ∷ es) name inputs found right is =
         let each = (Decides-and _ _ (bytes_eq-Decides e.value.name name)
         (same_inputs-Decides e.value.inputs inputs)).0 same in
         subst (λ (x : Rc Entry Global). entry_shown x.value ≡ sequence_with t name inputs) one
-        (made e.value.name name e.value.inputs inputs (results_shown e.value.node) each.0 each.1 right)
+        (right ∙ ap₂ (sequence_with t) each.0 each.1)
     by_test false same is right later = later is
 
 -- a sequence that is made of what was found for its inputs
 pub entry-made : (t : TablesState) (name : List ℕ) (inputs own : Inputs) (o : Option Inputs) (results : Results)
     (found : FoundSequence) → o ≡ inputs_of t name → o ≡ Some own → inputs_of t name ≡ Some inputs →
     results ≡ evaluated found → found ≡ found_of (recorded_of t inputs) →
-    let one : KeptSequence = record { name = name; inputs = own; results = results } in
+    let one : KeptSequence = record { name = name; inputs = own; found = found; results = results } in
     one ≡ sequence_with t name inputs
 unfolding eval
 entry-made t name inputs own o results found read some is computed gathered =

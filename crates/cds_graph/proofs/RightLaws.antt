@@ -11,20 +11,19 @@ use Rattle.cds_book.specs.Tables.{TablesState, NamedSequence, trace_of, method_o
 use Rattle.cds_book.specs.Kept.{IsTables}
 use Rattle.cds_graph.specs.declared.key.RowKey.{RowKey}
 use Rattle.cds_graph.specs.declared.method.MethodKey.{MethodKey}
-use Rattle.cds_graph.specs.Building.{HoldsNoise, IsRight, new_row_steps, new_noise_steps}
+use Rattle.cds_graph.specs.Building.{HoldsNoise, IsRight, IsRightSequence, new_row_steps, new_noise_steps}
 use Rattle.cds_graph.specs.Graph.{graph_of, empty_graph}
 use Rattle.cds_graph.specs.Keys.{NoiseKey, once, all_inputs, row_key, row_keys_in, method_key, noise_key_of, fresh}
 use Rattle.cds_graph.specs.Keys.{same_row_key, same_method_key, same_noise_key, row_keys, method_keys, noise_keys}
 use Rattle.cds_graph.specs.Keys.{new_keys, row_steps, noise_steps}
 use Rattle.cds_graph.specs.Kept.{KeptRow, KeptNoise, KeptMethod, KeptSequence}
 use Rattle.cds_graph.specs.Kept.{row_under, noise_under, method_under, sequence_under}
-use Rattle.cds_graph.specs.Results.{eval}
 use Rattle.cds_graph.specs.Rows.{found_in}
 use Rattle.cds_graph.specs.Staying.{HoldsInputs, KeepsVersions}
 use Rattle.cds_graph.proofs.AmongLaws.{All-flat_map, All-filter_map, All-once, All-of_map}
 use Rattle.cds_graph.proofs.BoundLaws.{all-there}
 use Rattle.cds_graph.proofs.ReadyLaws.{noises-there}
-use Rattle.cds_graph.proofs.StayLaws.{signal-agree, fields-agree, kept-same, eval-kept}
+use Rattle.cds_graph.proofs.StayLaws.{signal-agree, fields-agree, kept-same, sequence-kept}
 
 -- the trace and the method of a key are there
 record HoldsKey (t : TablesState) (key : RowKey) : Type 0 where
@@ -92,10 +91,10 @@ module _ (before after : TablesState) (keeps : KeepsVersions before after) where
             (All-weaker (HoldsNoise before) _ noise_under-kept (noise_keys before)
             (All-once (HoldsNoise before) same_noise_key (filter_map (noise_key_of before) (all_inputs before))
             (noises-there before ready)));
-        sequences = All-map (λ (s : KeptSequence). s.results ≡ eval after s.inputs) (sequence_under before)
-            before.sequences
+        sequences = All-map (IsRightSequence after) (sequence_under before) before.sequences
             (All-weaker (λ (e : NamedSequence). HoldsInputs before (inputs_in (bindings_of before) e.sequence)) _
-            (λ e is. sym (eval-kept before after keeps (inputs_in (bindings_of before) e.sequence) is)) before.sequences
+            (λ e is. sym (sequence-kept before after keeps e.name (inputs_in (bindings_of before) e.sequence) is))
+            before.sequences
             (All-of_map (HoldsInputs before) _ before.sequences there));
       }
 
@@ -105,7 +104,7 @@ empty-right t = record {
   methods = All-nil (λ (m : KeptMethod). m ≡ method_under t m.key);
   rows = All-nil (λ (r : KeptRow). r ≡ row_under t r.key);
   noises = All-nil (λ (n : KeptNoise). n ≡ noise_under t n.key);
-  sequences = All-nil (λ (s : KeptSequence). s.results ≡ eval t s.inputs);
+  sequences = All-nil (IsRightSequence t);
 }
 
 -- the keys of what is kept under keys are the keys

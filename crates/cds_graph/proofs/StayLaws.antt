@@ -1,22 +1,26 @@
 -- The results of inputs stay where the versions that the inputs name do.
-use Rattle.std.proofs.Common.{◌≡◌, ℕ, List, [], ◌∷◌, map, Option, Some, None, unwrap_or, option_map, refl, ap, ap₂}
+use Rattle.std.proofs.Common.{◌≡◌, ◌∙◌, ℕ, List, [], ◌∷◌, map, Option, Some, None, unwrap_or, option_map, refl, sym, ap}
+use Rattle.std.proofs.Common.{ap₂, subst}
 use Rattle.std.specs.Prelude.{All, IsSome}
 use Rattle.std.proofs.lemmas.List.Elements.{All-head, All-tail, All-weaker}
 use Rattle.cds_rules.specs.Fields.{Fields}
 use Rattle.cds_trace.specs.Signal.{Signal}
+use Rattle.cds_sign.specs.declared.command.Change.{Change}
 use Rattle.cds_sign.specs.declared.inputs.Inputs.{Inputs}
 use Rattle.cds_sign.specs.declared.inputs.Listed.{Listed}
 use Rattle.cds_sign.specs.declared.inputs.ListedRow.{ListedRow}
 use Rattle.cds_sign.specs.declared.row.Row.{Row}
+use Rattle.cds_book.specs.Plan.{applied}
 use Rattle.cds_book.specs.Tables.{TablesState, trace_of, method_of}
 use Rattle.cds_graph.specs.Recorded.{RecordedSequence, RecordedRow, RecordedStandard, RecordedListed}
 use Rattle.cds_graph.specs.Recorded.{no_signal, no_method}
 use Rattle.cds_graph.specs.Recorded.{signal_in, fields_stated, fields_in}
 use Rattle.cds_graph.specs.Recorded.{recorded_in, standard_in, listed_in, recorded_of}
 use Rattle.cds_graph.specs.Found.{found_of}
+use Rattle.cds_graph.specs.Kept.{sequence_with}
 use Rattle.cds_graph.specs.Results.{evaluated, eval}
 use Rattle.cds_graph.specs.Staying.{AgreeOnTrace, AgreeOnMethod, AgreeOnListed, AgreeOn}
-use Rattle.cds_graph.specs.Staying.{HoldsListed, HoldsInputs, KeepsVersions}
+use Rattle.cds_graph.specs.Staying.{HoldsListed, HoldsInputs, KeepsVersions, all_applied}
 
 -- two functions that agree on each item of a list give the same list
 map-agree : {A B : Type 0} (f g : A → B) (xs : List A) → All (λ x. f x ≡ g x) xs → map f xs ≡ map g xs
@@ -112,3 +116,49 @@ pub eval-kept : (before after : TablesState) → KeepsVersions before after → 
     HoldsInputs before inputs → eval after inputs ≡ eval before inputs
 eval-kept before after keeps inputs holds =
     eval-agree after before inputs (AgreeOn-kept before after keeps inputs holds)
+
+-- what is kept of such inputs
+pub sequence-kept : (before after : TablesState) → KeepsVersions before after → (name : List ℕ) (inputs : Inputs) →
+    HoldsInputs before inputs → sequence_with after name inputs ≡ sequence_with before name inputs
+sequence-kept before after keeps name inputs holds =
+    ap₂ (λ s r. record { name = name; inputs = inputs; found = found_of s; results = r })
+    (recorded-agree after before inputs (AgreeOn-kept before after keeps inputs holds))
+    (eval-kept before after keeps inputs holds)
+
+-- what was there is there
+some-kept : {A : Type 0} (o p : Option A) → IsSome o → ((x : A) → o ≡ Some x → p ≡ Some x) → IsSome p
+some-kept o p some keeps = subst IsSome (sym (kept-same o p some keeps)) some
+
+HoldsListed-kept : (before after : TablesState) → KeepsVersions before after → (listed : Listed) →
+    HoldsListed before listed → HoldsListed after listed
+HoldsListed-kept before after keeps listed holds = record {
+  method = some-kept (method_of before listed.method listed.version) _ holds.method
+      (keeps.methods listed.method listed.version);
+  rows = All-weaker (λ (row : ListedRow). IsSome (trace_of before row.trace row.version))
+      (λ row. IsSome (trace_of after row.trace row.version))
+      (λ row h. some-kept (trace_of before row.trace row.version) _ h (keeps.traces row.trace row.version))
+      listed.rows holds.rows;
+}
+
+pub HoldsInputs-kept : (before after : TablesState) → KeepsVersions before after → (inputs : Inputs) →
+    HoldsInputs before inputs → HoldsInputs after inputs
+HoldsInputs-kept before after keeps inputs holds = record {
+  method = some-kept (method_of before inputs.method inputs.version) _ holds.method
+      (keeps.methods inputs.method inputs.version);
+  rows = All-weaker (λ (row : Row). IsSome (trace_of before row.trace row.version))
+      (λ row. IsSome (trace_of after row.trace row.version))
+      (λ row h. some-kept (trace_of before row.trace row.version) _ h (keeps.traces row.trace row.version))
+      inputs.rows holds.rows;
+  standards = All-weaker (HoldsListed before) (HoldsListed after) (HoldsListed-kept before after keeps)
+      inputs.standards holds.standards;
+}
+
+-- the results of inputs after any number of changes, each of which keeps the versions
+pub eval-all_applied : ((t : TablesState) (c : Change) → KeepsVersions t (applied t c)) → (tables : TablesState)
+    (changes : List Change) (inputs : Inputs) → HoldsInputs tables inputs →
+    eval (all_applied tables changes) inputs ≡ eval tables inputs
+eval-all_applied keeps tables [] inputs holds = refl
+eval-all_applied keeps tables (c ∷ later) inputs holds =
+    eval-all_applied keeps (applied tables c) later inputs
+    (HoldsInputs-kept tables (applied tables c) (keeps tables c) inputs holds)
+    ∙ eval-kept tables (applied tables c) (keeps tables c) inputs holds

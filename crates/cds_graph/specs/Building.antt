@@ -19,11 +19,10 @@ use Rattle.cds_graph.specs.declared.method.MethodKey.{MethodKey}
 use Rattle.cds_graph.specs.declared.source.Source.{Source}
 use Rattle.cds_graph.specs.Graph.{Kept}
 use Rattle.cds_graph.specs.Kept.{KeptRow, KeptNoise, KeptMethod, KeptSequence}
-use Rattle.cds_graph.specs.Kept.{row_under, noise_under, method_under}
+use Rattle.cds_graph.specs.Kept.{row_under, noise_under, method_under, sequence_with}
 use Rattle.cds_graph.specs.Keys.{NoiseKey, same_row_key, same_noise_key, same_method_key, once, new_keys}
 use Rattle.cds_graph.specs.Keys.{row_key, method_key, noise_key_of, row_keys, noise_keys, method_keys}
 use Rattle.cds_graph.specs.Keys.{row_steps, noise_steps}
-use Rattle.cds_graph.specs.Results.{eval}
 use Rattle.cds_graph.specs.Ranges.{AreAmounts}
 
 -- the tables that a graph is built for
@@ -123,9 +122,12 @@ AreRows tables kept = All (λ (r : KeptRow). r ≡ row_under tables r.key) kept
 abbrev pub AreNoises : TablesState → List KeptNoise → Type 0
 AreNoises tables kept = All (λ (n : KeptNoise). n ≡ noise_under tables n.key) kept
 
--- kept sequences have the results of their inputs in the tables
+-- a kept sequence is what is found for its inputs in the tables, with their results
+abbrev pub IsRightSequence : TablesState → KeptSequence → Type 0
+IsRightSequence tables s = s ≡ sequence_with tables s.name s.inputs
+
 abbrev pub AreSequences : TablesState → List KeptSequence → Type 0
-AreSequences tables kept = All (λ (s : KeptSequence). s.results ≡ eval tables s.inputs) kept
+AreSequences tables kept = All (IsRightSequence tables) kept
 
 -- all that is kept is right for the tables
 pub record IsRight (tables : TablesState) (kept : Kept) : Type 0 where

@@ -5,7 +5,7 @@ use Rattle.std.specs.declared.rc.Rc.{Rc}
 use Rattle.cds_rules.specs.Fields.{fields_of}
 use Rattle.cds_integrate.specs.Seen.{seen}
 use Rattle.cds_graph.specs.Graph.{Kept}
-use Rattle.cds_graph.specs.Held.{results_shown}
+use Rattle.cds_graph.specs.Held.{found_shown, results_shown}
 use Rattle.cds_graph.specs.Kept.{KeptRow, KeptNoise, KeptMethod, KeptSequence}
 use Rattle.cds_graph.specs.Keys.{NoiseKey}
 use Rattle.cds_graph.specs.declared.found.RowNode.{RowNode}
@@ -42,7 +42,12 @@ noise_node_shown node = record { key = noise_key_shown node.key; noise = node.no
 
 -- what a held sequence is seen as
 abbrev pub entry_shown : Entry → KeptSequence
-entry_shown entry = record { name = entry.name; inputs = entry.inputs; results = results_shown entry.node }
+entry_shown entry = record {
+  name = entry.name;
+  inputs = entry.inputs;
+  found = found_shown entry.node.found;
+  results = results_shown entry.node;
+}
 
 -- what lists of held methods, rows, noises and sequences are seen as
 abbrev pub methods_shown : List (Rc MethodNode Global) → List KeptMethod

@@ -9,8 +9,9 @@ use Rattle.cds_book.specs.Inputs.{bindings_of, inputs_in}
 use Rattle.cds_book.specs.Tables.{TablesState, NamedSequence}
 use Rattle.cds_graph.specs.declared.key.RowKey.{RowKey}
 use Rattle.cds_graph.specs.declared.method.MethodKey.{MethodKey}
+use Rattle.cds_graph.specs.Found.{FoundSequence, found_of}
 use Rattle.cds_graph.specs.Keys.{NoiseKey}
-use Rattle.cds_graph.specs.Recorded.{signal_in, fields_in}
+use Rattle.cds_graph.specs.Recorded.{signal_in, fields_in, recorded_of}
 use Rattle.cds_graph.specs.Results.{Results, eval}
 use Rattle.cds_graph.specs.Rows.{found_in}
 
@@ -30,10 +31,11 @@ pub record KeptMethod : Type 0 where
   pub key : MethodKey
   pub fields : Fields
 
--- a kept sequence: its name, its inputs, and its results
+-- a kept sequence: its name, its inputs, its method and its rows as they are found, and its results
 pub record KeptSequence : Type 0 where
   pub name : List ℕ
   pub inputs : Inputs
+  pub found : FoundSequence
   pub results : Results
 
 -- the row that a key names in the tables: that of its trace's version, under its method's version and its manual events
@@ -58,7 +60,12 @@ method_under tables key = record { key = key; fields = fields_in tables key.name
 
 -- a sequence of these inputs with its results in the tables
 abbrev pub sequence_with : TablesState → List ℕ → Inputs → KeptSequence
-sequence_with tables name inputs = record { name = name; inputs = inputs; results = eval tables inputs }
+sequence_with tables name inputs = record {
+  name = name;
+  inputs = inputs;
+  found = found_of (recorded_of tables inputs);
+  results = eval tables inputs;
+}
 
 -- a sequence of the tables with its results
 unfoldable pub sequence_under : TablesState → NamedSequence → KeptSequence

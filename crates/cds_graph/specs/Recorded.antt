@@ -70,6 +70,10 @@ fields_stated text = result_unwrap_or (stated text) no_method
 unfoldable pub fields_in : TablesState → List ℕ → ℕ → Fields
 fields_in tables method version = unwrap_or (option_map fields_stated (method_of tables method version)) no_method
 
+-- what the method that inputs name states
+abbrev pub fields_bound : TablesState → Inputs → Fields
+fields_bound tables inputs = fields_in tables inputs.method inputs.version
+
 -- a row with its signal
 abbrev pub recorded_in : TablesState → Row → RecordedRow
 recorded_in tables row = record { row = row; signal = signal_in tables row.trace row.version }

@@ -1,10 +1,12 @@
 -- When the results of inputs stay: where the versions that the inputs name are the same. This project's own.
-use Rattle.std.specs.Prelude.{◌≡◌, ℕ, List, Some, All, IsSome}
+use Rattle.std.specs.Prelude.{◌≡◌, ℕ, List, [], ◌∷◌, Some, All, IsSome}
+use Rattle.cds_sign.specs.declared.command.Change.{Change}
 use Rattle.cds_sign.specs.declared.inputs.Inputs.{Inputs}
 use Rattle.cds_sign.specs.declared.inputs.Listed.{Listed}
 use Rattle.cds_sign.specs.declared.inputs.ListedRow.{ListedRow}
 use Rattle.cds_sign.specs.declared.row.Row.{Row}
 use Rattle.cds_trace.specs.Signal.{Signal}
+use Rattle.cds_book.specs.Plan.{applied}
 use Rattle.cds_book.specs.Tables.{TablesState, trace_of, method_of}
 -- what sequences bind is there, which is a rule of the tables
 pub use Rattle.cds_book.specs.Kept.{Resolves, IsBound, AreBound}
@@ -45,3 +47,8 @@ pub record KeepsVersions (before after : TablesState) : Type 0 where
       → trace_of before name version ≡ Some signal → trace_of after name version ≡ Some signal
   pub methods : (name : List ℕ) (version : ℕ) (text : List ℕ)
       → method_of before name version ≡ Some text → method_of after name version ≡ Some text
+
+-- the tables after these changes, one after the other
+abbrev pub all_applied : TablesState → List Change → TablesState
+all_applied tables [] = tables
+all_applied tables (change ∷ later) = all_applied (applied tables change) later

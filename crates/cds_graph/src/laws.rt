@@ -1,6 +1,6 @@
 //! Laws of the results of sequences. Each is proved by its contract, and its body does nothing, or cites the laws that
 //! it rests on.
-ghost use Rattle.std.specs.Prelude.{◌≡◌, ℕ, ◌<◌, Decides, List, Some, map, unsigned_abs};
+ghost use Rattle.std.specs.Prelude.{◌≡◌, ℕ, ◌<◌, Decides, List, Some, map, option_map, unsigned_abs};
 ghost use Rattle.cds_base.specs.declared.peak.Ratio.{Ratio};
 ghost use Rattle.cds_figures.specs.Figures.{signal_noise_of, peak_valley_of};
 ghost use Rattle.cds_integrate.specs.Seen.{ratio_seen};
@@ -14,9 +14,12 @@ ghost use Rattle.cds_book.specs.Inputs.{inputs_of};
 ghost use Rattle.cds_book.specs.Plan.{applied};
 ghost use Rattle.cds_book.specs.Tables.{TablesState};
 ghost use Rattle.cds_graph.specs.Keys.{NoiseKey, same_row_key, same_noise_key, row_key, fresh};
+ghost use Rattle.cds_graph.specs.Graph.{Kept, StandsFor};
+ghost use Rattle.cds_graph.specs.GraphLooks.{fields_named, inputs_named, results_named};
 ghost use Rattle.cds_graph.specs.Kept.{row_under};
-ghost use Rattle.cds_graph.specs.Results.{eval};
-ghost use Rattle.cds_graph.specs.Staying.{AgreeOn, AreBound, HoldsInputs};
+ghost use Rattle.cds_graph.specs.Recorded.{fields_bound};
+ghost use Rattle.cds_graph.specs.Results.{eval, results_of};
+ghost use Rattle.cds_graph.specs.Staying.{AgreeOn, AreBound, HoldsInputs, all_applied};
 
 use cds_book::{method_versions_stay, trace_versions_stay};
 
@@ -35,6 +38,37 @@ pub fn results_stay()
     trace_versions_stay();
     method_versions_stay();
 }
+
+/// Whatever is changed, the tables still have each version that inputs name, where they had it.
+pub fn inputs_stay_there()
+    ensures { (tables : TablesState) (c : Changed) (inputs : Inputs)
+        → HoldsInputs tables inputs → HoldsInputs (applied tables c) inputs }
+{
+    trace_versions_stay();
+    method_versions_stay();
+}
+
+/// However many changes there are, the results of inputs stay where the tables have each version that the inputs name:
+/// so the results of inputs that were signed are the same in all later tables.
+pub fn results_stay_whatever_comes()
+    ensures { (tables : TablesState) (changes : List Changed) (inputs : Inputs) → HoldsInputs tables inputs
+        → eval (all_applied tables changes) inputs ≡ eval tables inputs }
+{
+    trace_versions_stay();
+    method_versions_stay();
+}
+
+/// Where the graph stands for tables, what it keeps of the sequence of a name are the inputs that the tables give, the
+/// fields that the method of the inputs states in the tables, and the results of the inputs, computed anew. So each
+/// look-up in the graph is one in the results of the tables.
+pub fn look_ups_are_those_of_the_tables()
+    ensures inputs { (tables : TablesState) (graph : Kept) (name : List ℕ)
+        → StandsFor tables graph → inputs_named graph name ≡ inputs_of tables name }
+    ensures fields { (tables : TablesState) (graph : Kept) (name : List ℕ) → StandsFor tables graph
+        → fields_named graph name ≡ option_map (fields_bound tables) (inputs_of tables name) }
+    ensures results { (tables : TablesState) (graph : Kept) (name : List ℕ)
+        → StandsFor tables graph → results_named graph name ≡ results_of tables name }
+{}
 
 /// In tables in which what each sequence binds is there, the inputs of a sequence name nothing else. So the results of
 /// such inputs stay.

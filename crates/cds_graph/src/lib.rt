@@ -42,8 +42,9 @@ pub use figures::{plates_in, tailing_in};
 pub use graph::{Graph, Prepared};
 pub use key::RowKey;
 pub use laws::{
-    heights_give_their_figures, inputs_are_there, keys_are_the_same_where_equal,
-    nothing_is_new_where_nothing_changed, results_rest_on_what_inputs_name, results_stay,
+    heights_give_their_figures, inputs_are_there, inputs_stay_there, keys_are_the_same_where_equal,
+    look_ups_are_those_of_the_tables, nothing_is_new_where_nothing_changed,
+    results_rest_on_what_inputs_name, results_stay, results_stay_whatever_comes,
     rows_are_those_of_their_keys, the_limits,
 };
 pub use limits::{NOISE_STEPS, ROW_STEPS};

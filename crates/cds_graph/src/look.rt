@@ -6,7 +6,7 @@ ghost use Rattle.cds_integrate.specs.Row.{peaks_in};
 ghost use Rattle.cds_integrate.specs.Seen.{seen};
 ghost use Rattle.cds_rules.specs.Fields.{fields_of};
 ghost use Rattle.cds_graph.specs.Figures.{CrossesBefore};
-ghost use Rattle.cds_graph.specs.GraphLooks.{fields_named, kept_named, looked_up};
+ghost use Rattle.cds_graph.specs.GraphLooks.{fields_named, inputs_named, kept_named, looked_up};
 ghost use Rattle.cds_graph.specs.HeldGraph.{entry_shown};
 ghost use Rattle.cds_graph.specs.Looks.{row_at, period_at, points_at, line_at, determination_at, amount_at, check_at};
 
@@ -14,13 +14,12 @@ use crate::check_line::CheckLine;
 use crate::entry::Entry;
 use crate::found::RowNode;
 use crate::graph::Graph;
-use crate::method::MethodKey;
-use crate::methods::method_node;
 use cds_base::{Missing, Name};
 use cds_calib::Fit;
 use cds_frac::Frac;
 use cds_integrate::RowPart;
 use cds_rules::Method;
+use cds_sign::Inputs;
 use cds_suit::Verdict;
 use std::rc::Rc;
 
@@ -30,14 +29,16 @@ impl Graph {
         ensures { option_map fields_of (option_copied result) ≡ fields_named self.now sequence }
     {
         let entry = self.entry(sequence)?;
-        let key = MethodKey {
-            name: entry.inputs.method,
-            version: entry.inputs.version,
-        };
-        match method_node(&self.nodes.methods, &key) {
-            Some(node) => Some(&node.as_ref().method),
-            None => None,
-        }
+        Some(&entry.node.found.method.as_ref().method)
+    }
+
+    /// What the results of a sequence rest on: the version of its method, its rows with the versions of their traces,
+    /// and the standard rows of the sequences that it lists. None exactly where there is no such sequence.
+    pub fn inputs(&self, sequence: Name) -> Option<&Inputs>
+        ensures { option_copied result ≡ inputs_named self.now sequence }
+    {
+        let entry = self.entry(sequence)?;
+        Some(&entry.inputs)
     }
 
     /// What is found in a row. None exactly where there is no such sequence or row. In a trace of the period of the row
