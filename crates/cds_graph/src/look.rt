@@ -4,12 +4,15 @@ ghost use Rattle.std.specs.Prelude.{◌≡◌, All, IfSome, Some, find, option_c
 ghost use Rattle.std.specs.Str.{bytes_eq};
 ghost use Rattle.cds_integrate.specs.Row.{peaks_in};
 ghost use Rattle.cds_integrate.specs.Seen.{seen};
+ghost use Rattle.cds_book.specs.Tables.{numbered};
 ghost use Rattle.cds_rules.specs.Fields.{fields_of};
 ghost use Rattle.cds_graph.specs.Figures.{CrossesBefore};
 ghost use Rattle.cds_graph.specs.GraphLooks.{fields_named, inputs_named, kept_named, looked_up};
 ghost use Rattle.cds_graph.specs.HeldGraph.{entry_shown};
+ghost use Rattle.cds_graph.specs.Nodes.{IsCounted};
 ghost use Rattle.cds_graph.specs.Looks.{row_at, period_at, points_at, line_at, determination_at, amount_at, check_at};
 
+use crate::calibration::{Calibration, calibration_numbered};
 use crate::check_line::CheckLine;
 use crate::entry::Entry;
 use crate::found::RowNode;
@@ -42,12 +45,14 @@ impl Graph {
     }
 
     /// What is found in a row. None exactly where there is no such sequence or row. In a trace of the period of the row
-    /// each peak crosses one twentieth of its height before its apex sample.
+    /// each peak crosses one twentieth of its height before its apex sample, and where the raw peaks are too many, their
+    /// number is above 0.
     pub fn row(&self, sequence: Name, n: u32) -> Option<&RowPart>
         ensures value { option_map seen (option_copied result)
             ≡ looked_up self.now sequence (λ results. row_at results n) }
         ensures crosses { IfSome result (λ part. IfSome (looked_up self.now sequence (λ results. period_at results n))
             (λ period. All (CrossesBefore period) (peaks_in part.now))) }
+        ensures counted { IfSome result (λ part. IsCounted part.now) }
     {
         let entry = self.entry(sequence)?;
         let node = entry.node.row(n)?;
@@ -61,6 +66,16 @@ impl Graph {
         let entry = self.entry(sequence)?;
         let node = entry.node.row(n)?;
         Some(node.period)
+    }
+
+    /// The calibration of a component: its points, its line and its determination. None exactly where there is no such
+    /// sequence or component.
+    pub fn calibration(&self, sequence: Name, component: u32) -> Option<&Calibration>
+        ensures { option_copied result
+            ≡ looked_up self.now sequence (λ results. numbered results.calibrations component) }
+    {
+        let entry = self.entry(sequence)?;
+        calibration_numbered(entry.node.calibrations.as_slice(), component)
     }
 
     /// How many points a component has. None exactly where there is no such sequence or component.
@@ -112,6 +127,17 @@ impl Graph {
     {
         let entry = self.entry(sequence)?;
         entry.node.check(i, k)
+    }
+
+    /// The lines of a check in their order. None exactly where there is no such sequence or check.
+    pub fn lines(&self, sequence: Name, i: u32) -> Option<&[CheckLine]>
+        ensures { option_copied result ≡ looked_up self.now sequence (λ results. numbered results.checks i) }
+    {
+        let entry = self.entry(sequence)?;
+        match entry.node.lines_of(i) {
+            Some(lines) => Some(lines.items.as_slice()),
+            None => None,
+        }
     }
 
     /// The verdict of all checks of a sequence. None exactly where there is no such sequence.

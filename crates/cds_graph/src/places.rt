@@ -93,7 +93,7 @@ impl SequenceNode {
     }
 
     /// The lines of a check. None exactly where there is no such check.
-    fn lines_of(&self, i: u32) -> Option<&CheckLines>
+    pub fn lines_of(&self, i: u32) -> Option<&CheckLines>
         ensures { option_copied result ≡ numbered (results_shown self.now).checks i }
     {
         if i == 0 {
