@@ -87,9 +87,6 @@ pub record PlansSequence (t : TablesState) (name : List ℕ) (edition : ℕ) (me
   pub is : change.Sequence name edition method version listed rows ≡ c
   pub planned_is : other_planned t name edition c ≡ Ok (plan.Change c)
 
-unit : (u : Unit {0}) (r : Result (Unit {0}) PlanError) → r ≡ Ok u → r ≡ Ok tt
-unit u r is = is
-
 pub PlansSequence-planned : (t : TablesState) (name : List ℕ) (edition : ℕ) (method : List ℕ) (version : ℕ) (standards : List (List ℕ)) (asked : List AskedRow) (c : Change)
     → sequence_planned t name edition method version standards asked ≡ Ok (plan.Change c) → PlansSequence t name edition method version standards asked c
 unfolding sequence_planned
