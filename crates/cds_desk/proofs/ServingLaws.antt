@@ -59,6 +59,7 @@ changed_nothing l text = record {
   puts = omega arith;
   failures = omega arith;
   untouched = λ _. refl;
+  steps = omega arith;
 }
 
 changed_then : (a b c : Lasting) (first second : Outcome) → Changed a b first → Changed b c second → Changed a c (followed_by first second)
@@ -68,6 +69,7 @@ changed_then a b c first second x y = record {
   puts = omega (arith, x.puts, y.puts);
   failures = omega (arith, x.failures, y.failures);
   untouched = λ none. y.untouched (omega (arith, none)) ∙ x.untouched (omega (arith, none));
+  steps = omega (arith, x.steps, y.steps);
 }
 
 -- what a load finds keeps step over two stretches, one after the other

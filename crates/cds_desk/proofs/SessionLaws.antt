@@ -26,11 +26,11 @@ opens_ok : (list : List (List ℕ)) (state : State) → Gives NoMemory (λ (t : 
 opens_ok list state opens = opens
 
 -- the store that was opened
-opened_so : (found : Option Found) (before keeper : KeeperTold) (list : List (List ℕ)) (state : State)
+opened_so : (found : Option Found) (before keeper : KeeperTold) (list : List (List ℕ)) (state : State) (steps : ℕ)
     → IfSome found (λ f. (f ≡ records list) × (keeper.content ≡ Some list)) → IfSome keeper.content (λ kept. kept ≡ list)
     → keeper.is_open ≡ true → keeper.faults ≡ before.faults → keeper.calls ≡ one_more before.calls
-    → Gives NoMemory (λ (t : State). t) (opened list) (Ok state) → Opened found before
-opened_so found before keeper list state h holds is_open faults calls opens = record {
+    → Gives NoMemory (λ (t : State). t) (opened list) (Ok state) → Opened found before steps
+opened_so found before keeper list state steps h holds is_open faults calls opens = record {
   list = list;
   is_found = both_found found h;
   keeper = keeper;
@@ -41,6 +41,8 @@ opened_so found before keeper list state h holds is_open faults calls opens = re
   calls = calls;
   state = state;
   opens = opens_ok list state opens;
+  steps = steps;
+  no_step = λ _. refl;
 }
   where
     both_found : (found : Option Found) → IfSome found (λ f. (f ≡ records list) × (keeper.content ≡ Some list)) → IfSome found (λ f. f ≡ records list)
@@ -53,15 +55,15 @@ opened_so found before keeper list state h holds is_open faults calls opens = re
 
 -- the source was served from the store that was opened
 pub served_until : (ended : Ended) (found found_now : Option Found) (before keeper keeper_now : KeeperTold) (list : List (List ℕ)) (state after : State)
-    (written written_now : Option (List ℕ)) (from to : Reading)
+    (written written_now : Option (List ℕ)) (from to : Reading) (steps steps_now : ℕ)
     → IfSome found (λ f. (f ≡ records list) × (keeper.content ≡ Some list)) → IfSome keeper.content (λ kept. kept ≡ list)
     → keeper.is_open ≡ true → keeper.faults ≡ before.faults → keeper.calls ≡ one_more before.calls
     → Gives NoMemory (λ (t : State). t) (opened list) (Ok state)
-    → EndsAs ended (world written state keeper) (world written_now after keeper_now) from to
-    → ServedUntil ended (session_told from written found before) (session_told to written_now found_now keeper_now)
+    → EndsAs ended (world written state keeper steps) (world written_now after keeper_now steps_now) from to
+    → ServedUntil ended (session_told from written found before steps) (session_told to written_now found_now keeper_now steps_now)
 unfolding opened_so
-served_until ended found found_now before keeper keeper_now list state after written written_now from to h holds is_open faults calls opens way =
-    (opened_so found before keeper list state h holds is_open faults calls opens, after, way)
+served_until ended found found_now before keeper keeper_now list state after written written_now from to steps steps_now h holds is_open faults calls opens way =
+    (opened_so found before keeper list state steps h holds is_open faults calls opens, after, way)
 
 -- a load finds the records that it found
 pub finds_loaded : (found : Option Found) (content : Option (List (List ℕ))) (list : List (List ℕ))

@@ -1,10 +1,10 @@
 -- What the turn of a request comes to.
-use Rattle.std.proofs.Common.{◌≡◌, ℕ, ◌+◌, ◌^◌, ◌<◌, ◌≤◌, length, List, Option, Some, None, Result, Ok, Err, refl, sym, ap, ◌∙◌, subst, inl, [], ◌∷◌, ◌++◌, arith}
+use Rattle.std.proofs.Common.{◌≡◌, ℕ, ◌+◌, ◌-◌, ◌^◌, ◌<◌, ◌≤◌, length, List, Option, Some, None, Result, Ok, Err, refl, sym, ap, ◌∙◌, subst, inl, [], ◌∷◌, ◌++◌, arith}
 use Rattle.std.specs.Prelude.{OnOk, OnErr, IfSome, IsTrue, bytes_eq, codes, is_some, min, option_map}
 use Rattle.cds_base.specs.Failing.{one_more}
 use Rattle.cds_base.specs.Faults.{Rose, most_faults}
 use Rattle.cds_base.specs.Told.{then_more}
-use Rattle.cds_desk.specs.State.{State, with_change, after_change}
+use Rattle.cds_desk.specs.State.{State, with_change, after_change, cost_of}
 use Rattle.cds_sign.specs.declared.command.Change.{Change}
 use Rattle.cds_book.specs.Plan.{command_of, IsCommand}
 use Rattle.cds_codec.specs.Record.{carried_text, record_of}
@@ -16,14 +16,16 @@ use Rattle.cds_keep.specs.Found.{Found, records, FindsContent, FindsOneMoreAtMos
 use Rattle.cds_keep.specs.Told.{KeeperTold}
 use Rattle.cds_respond.specs.Response.{response_text}
 use Rattle.cds_respond.specs.Sending.{HoldsPart}
-use Rattle.cds_desk.specs.Service.{Outcome, ServesItem, turn, puts_for, unused, served, no_memory, not_kept, keeper_failed}
+use Rattle.cds_book.specs.Tables.{TablesState}
+use Rattle.cds_graph.specs.Keys.{fresh}
+use Rattle.cds_desk.specs.Service.{Outcome, ServesItem, MayGo, MayUse, Used, Way, turn, puts_for, served, no_memory, not_kept, keeper_failed}
 use Rattle.cds_desk.specs.Serving.{Lasting, Changed, FindsOn, ItemServed, ItemBroken}
 use Rattle.cds_desk.specs.Judged.{reply_of, change_of}
 use Rattle.cds_desk.specs.Commands.{IsPlanned, IsRouted}
 use Rattle.cds_desk.proofs.CommandLaws.{method_length}
 use Rattle.cds_desk.specs.Step.{judged, records_of}
 use Rattle.cds_desk.specs.declared.judged.Judged.{Judged}
-use Rattle.cds_desk.specs.Turn.{Asks, Comes, KeepsChange, judged_of, calls_after, answered_text}
+use Rattle.cds_desk.specs.Turn.{Asks, Comes, KeepsChange, TakesSteps, judged_of, calls_after, answered_text}
 use Rattle.cds_desk.specs.declared.turn.Answered.{Answered}
 use Rattle.cds_desk.specs.declared.turn.Answered.TheVariants.{Response, NoMemory, NotKept, KeeperFailed}
 use Rattle.cds_desk.specs.declared.turn.Asked.{Asked}
@@ -42,45 +44,75 @@ counted : (change : Option Change) (before now : ℕ) → now ≡ calls_after ch
 counted None before now is = omega (arith, is)
 counted (Some change) before now is = omega (arith, is)
 
-came : (before now : Lasting) (m : Message) (a : Answered)
-    → Comes before now (judged before.state m 0) (response_text (reply_of (judged before.state m 0)) m.close (bytes_eq m.method (codes "HEAD"))) a
-    → Came before now m (answered_text a m.close (bytes_eq m.method (codes "HEAD")))
-came before now m (Response response) c = record {
-  outcome = turn before.state m (served 0 unused);
-  serves = (served 0 unused, refl, refl);
-  changed = record {
-    content = c.2;
-    state = c.1;
-    puts = counted (change_of (judged before.state m 0)) before.keeper.calls now.keeper.calls c.4;
-    failures = omega (arith, c.3);
-    untouched = λ _. c.3;
-  };
-  text_is = c.0;
-}
-came before now m NoMemory c = record {
-  outcome = turn before.state m (no_memory unused);
-  serves = (no_memory unused, refl, refl);
-  changed = subst (λ (l : Lasting). Changed before l (turn before.state m (no_memory unused))) (sym c) (record {
-    content = sym (kept-nil before.keeper.content);
-    state = refl;
-    puts = omega arith;
-    failures = omega arith;
-    untouched = λ _. refl;
-  });
-  text_is = refl;
-}
-came before now m NotKept c = record {
-  outcome = turn before.state m (not_kept unused);
-  serves = (not_kept unused, (refl, (0, c.0)), refl);
-  changed = record { content = c.2 ∙ sym (kept-nil before.keeper.content); state = c.1; puts = omega (arith, c.4); failures = omega (arith, c.3); untouched = λ _. c.3 };
-  text_is = refl;
-}
-came before now m KeeperFailed c = record {
-  outcome = turn before.state m (keeper_failed unused);
-  serves = (keeper_failed unused, (refl, (0, c.0)), refl);
-  changed = record { content = c.2 ∙ sym (kept-nil before.keeper.content); state = c.1; puts = omega (arith, c.4); failures = c.3; untouched = λ none. absurd (cc) };
-  text_is = refl;
-}
+-- the steps that were counted between
+abbrev used : Lasting → Lasting → Used
+used before now = record { moments = []; cost = now.steps - before.steps }
+
+module _ (before now : Lasting) (m : Message)
+    (takes : TakesSteps (cost_of before.state (change_of (judged before.state m 0))) before.steps now.steps) where
+  -- the turn used no more than it may
+  may_use : MayUse before.state m 0 (used before now)
+  may_use = record { moments = refl; steps = omega (arith, takes.0, takes.1) }
+
+  -- and each step was counted
+  all_counted : now.steps ≡ before.steps + (now.steps - before.steps)
+  all_counted = omega (arith, takes.0)
+
+  came : (a : Answered)
+      → Comes before now (judged before.state m 0) (response_text (reply_of (judged before.state m 0)) m.close (bytes_eq m.method (codes "HEAD"))) a
+      → Came before now m (answered_text a m.close (bytes_eq m.method (codes "HEAD")))
+  came (Response response) c = record {
+    outcome = turn before.state m (served 0 (used before now));
+    serves = (served 0 (used before now), may_use, refl);
+    changed = record {
+      content = c.2;
+      state = c.1;
+      puts = counted (change_of (judged before.state m 0)) before.keeper.calls now.keeper.calls c.4;
+      failures = omega (arith, c.3);
+      untouched = λ _. c.3;
+      steps = all_counted;
+    };
+    text_is = c.0;
+  }
+  came NoMemory c = record {
+    outcome = turn before.state m (no_memory (used before now));
+    serves = (no_memory (used before now), (0, may_use), refl);
+    changed = record {
+      content = ap (λ (k : KeeperTold). k.content) c.1 ∙ sym (kept-nil before.keeper.content);
+      state = c.0;
+      puts = omega (arith, ap (λ (k : KeeperTold). k.calls) c.1);
+      failures = omega (arith, ap (λ (k : KeeperTold). k.faults) c.1);
+      untouched = λ _. ap (λ (k : KeeperTold). k.faults) c.1;
+      steps = all_counted;
+    };
+    text_is = refl;
+  }
+  came NotKept c = record {
+    outcome = turn before.state m (not_kept (used before now));
+    serves = (not_kept (used before now), (0, c.0, may_use), refl);
+    changed = record {
+      content = c.2 ∙ sym (kept-nil before.keeper.content);
+      state = c.1;
+      puts = omega (arith, c.4);
+      failures = omega (arith, c.3);
+      untouched = λ _. c.3;
+      steps = all_counted;
+    };
+    text_is = refl;
+  }
+  came KeeperFailed c = record {
+    outcome = turn before.state m (keeper_failed (used before now));
+    serves = (keeper_failed (used before now), (0, c.0, may_use), refl);
+    changed = record {
+      content = c.2 ∙ sym (kept-nil before.keeper.content);
+      state = c.1;
+      puts = omega (arith, c.4);
+      failures = c.3;
+      untouched = λ none. absurd (cc);
+      steps = all_counted;
+    };
+    text_is = refl;
+  }
 
 -- what was asked is judged as the message is
 asked_judged : (state : State) (asked : Asked) (m : Message) → Asks asked m → judged_of state asked ≡ judged state m 0
@@ -88,9 +120,11 @@ unfolding judged_of
 asked_judged state asked m asks = rw (asks.method, asks.target, asks.body) refl
 
 module _ {A E : Type 0} (r : Result A E) (w v : Option (List ℕ)) (before now : Lasting) (asked : Asked) (m : Message) (a : Answered) (asks : Asks asked m)
-    (comes : Comes before now (judged_of before.state asked) (response_text (reply_of (judged_of before.state asked)) asked.close asked.without_body) a) where
+    (comes : Comes before now (judged_of before.state asked) (response_text (reply_of (judged_of before.state asked)) asked.close asked.without_body) a)
+    (takes : TakesSteps (cost_of before.state (change_of (judged_of before.state asked))) before.steps now.steps) where
   it_came : Came before now m (answered_text a m.close (bytes_eq m.method (codes "HEAD")))
-  it_came = came before now m a (rw (← asked_judged before.state asked m asks, ← asks.close, ← asks.without_body) comes)
+  it_came = came before now m (rw (← asked_judged before.state asked m asks) takes) a
+      (rw (← asked_judged before.state asked m asks, ← asks.close, ← asks.without_body) comes)
 
   -- the answer was written whole
   pub served_ok : OnOk r (v ≡ then_more w (answered_text a asked.close asked.without_body))
@@ -209,3 +243,25 @@ finds_put found now before after h =
 -- the keeper failed
 pub finds_failed : (found now : Option Found) (before after : KeeperTold) → FindsOneMoreAtMost now after.content → Rose before.faults after.faults → FindsOn found now before after
 finds_failed found now before after h rose = record { more = λ _. h; exactly = λ same below _. absurd (omega (arith, same, below, rose)) }
+
+-- ---- what a turn costs
+
+-- a change costs what it makes new, and so does none
+pub costs_new : ((tables : TablesState) → fresh tables tables ≡ 0) → (state : State) (change : Option Change)
+    → cost_of state change ≡ fresh state.tables (after_change state change).tables
+costs_new nothing state (Some change) = refl
+costs_new nothing state None = sym (nothing state.tables)
+
+nothing_used : (state : State) (m : Message) (moment : ℕ) (spent : Used) → change_of (judged state m moment) ≡ None
+    → MayUse state m moment spent → spent.cost ≡ 0
+nothing_used state m moment spent none may =
+    let few : spent.cost ≤ cost_of state None = subst (λ (c : Option Change). spent.cost ≤ cost_of state c) none may.steps in
+    omega (arith, few)
+
+-- the turn of a request without a change takes no step
+pub costs_nothing : (state : State) (m : Message) (way : Way) → ((moment : ℕ) → change_of (judged state m moment) ≡ None)
+    → MayGo state m way → (turn state m way).cost ≡ 0
+costs_nothing state m (served moment spent) none may = nothing_used state m moment spent (none moment) may
+costs_nothing state m (no_memory spent) none may = nothing_used state m may.0 spent (none may.0) may.1
+costs_nothing state m (not_kept spent) none may = nothing_used state m may.0 spent (none may.0) may.2
+costs_nothing state m (keeper_failed spent) none may = nothing_used state m may.0 spent (none may.0) may.2

@@ -67,23 +67,26 @@ pub record PeaksRan {S W : Type 0} (options : PeaksOptions) (ended : Status) (be
 
 -- ---- `session`
 
--- the devices of a command at one time, with what they tell
+-- the devices of a command at one time, with what they tell, and the steps
 pub record Devices (S W K : Type 0) : Type 0 where
   pub streams : Streams S W
   pub keeper : K
   pub keeper_told : KeeperTold
   -- what a load of each store finds
   pub finds : List ℕ → Option Found
+  -- how many steps were counted
+  pub steps : ℕ
 
 -- the devices as they are at one time
-abbrev pub devices : {S W K : Type 0} → Streams S W → K → KeeperTold → (List ℕ → Option Found) → Devices S W K
-devices s keeper keeper_told finds = record { streams = s; keeper = keeper; keeper_told = keeper_told; finds = finds }
+abbrev pub devices : {S W K : Type 0} → Streams S W → K → KeeperTold → (List ℕ → Option Found) → ℕ → Devices S W K
+devices s keeper keeper_told finds steps =
+    record { streams = s; keeper = keeper; keeper_told = keeper_told; finds = finds; steps = steps }
 
 -- what the devices tell of a session over a store
 abbrev pub told_of : {S W K : Type 0} → List ℕ → Devices S W K → SessionTold
 told_of store d =
     session_told (reading d.streams.source_told.given d.streams.source_told.left) d.streams.sink_told.written
-    (d.finds store) d.keeper_told
+    (d.finds store) d.keeper_told d.steps
 
 -- a session over a store was served
 pub record SessionGone {S W K : Type 0} (store : List ℕ) (ended : Status) (before now : Devices S W K) : Type 0 where
@@ -100,6 +103,7 @@ pub record SessionUnserved {S W K : Type 0} (store : List ℕ) (ended : Status)
   pub stores_nothing : now.finds store ≡ before.finds store
   pub loads_once : now.keeper_told.calls ≡ one_more before.keeper_told.calls
   pub reads_nothing : now.streams.source ≡ before.streams.source
+  pub takes_no_step : now.steps ≡ before.steps
   pub count_stays : ended ≢ KeeperFailed → now.keeper_told.faults ≡ before.keeper_told.faults
   pub keeper_failed : ended ≡ KeeperFailed → Rose before.keeper_told.faults now.keeper_told.faults
       × (now.streams.sink ≡ before.streams.sink) × (now.keeper_told.is_open ≡ false)
@@ -135,4 +139,5 @@ abbrev pub Ran : {S W K : Type 0} → Option TopCommand → Status → Devices S
 Ran (Some (peaks options)) ended before now =
     PeaksRan options ended before.streams now.streams × (now.keeper ≡ before.keeper)
 Ran (Some (session store)) ended before now = SessionRan store ended before now
-Ran None ended before now = UsageTold ended before.streams now.streams × (now.keeper ≡ before.keeper)
+Ran None ended before now =
+    UsageTold ended before.streams now.streams × (now.keeper ≡ before.keeper) × (now.steps ≡ before.steps)

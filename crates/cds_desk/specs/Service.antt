@@ -1,7 +1,8 @@
 -- How a connection is served: the items of what its client sends, one after the other, each with what is written for
 -- it, what it changes, and what is kept of it.
-use Rattle.std.specs.Prelude.{◌≡◌, ℕ, ◌+◌, List, [], ◌∷◌, ◌++◌, codes, bytes_eq, Option, Some, None, is_some, IsTrue}
-use Rattle.cds_desk.specs.State.{State}
+use Rattle.std.specs.Prelude.{◌≡◌, ℕ, ◌+◌, ◌≤◌, List, [], ◌∷◌, ◌++◌, codes, bytes_eq, Option, Some, None, is_some}
+use Rattle.std.specs.Prelude.{IsTrue}
+use Rattle.cds_desk.specs.State.{State, cost_of}
 use Rattle.cds_sign.specs.declared.command.Change.{Change}
 use Rattle.cds_http.specs.Items.{Message, Item, continue, request, fault}
 use Rattle.cds_respond.specs.Fixed.{fault_text}
@@ -25,10 +26,6 @@ pub record Used : Type 0 where
   pub moments : List ℕ
   -- how many steps were taken
   pub cost : ℕ
-
--- the clock isn't asked, and no step is taken
-abbrev pub unused : Used
-unused = record { moments = []; cost = 0 }
 
 -- how the turn of a request went, and what it used
 pub data Way : Type 0 where
@@ -90,16 +87,22 @@ turn state m (no_memory used) = unserved state m memory_reply 0 0 used
 turn state m (not_kept used) = unserved state m memory_reply 1 0 used
 turn state m (keeper_failed used) = unserved state m keeper_reply 1 1 used
 
--- the request has a change at some moment
-abbrev pub HasChange : State → Message → Type 0
-HasChange state m = (moment : ℕ) × IsTrue (is_some (change_of (judged state m moment)))
+-- the request has a change at this moment
+abbrev pub HasChange : State → Message → ℕ → Type 0
+HasChange state m moment = IsTrue (is_some (change_of (judged state m moment)))
 
--- a record is put only for a request that has a change; no request asks the clock or takes a step yet
+-- What a turn may use of a request at this moment: no request asks the clock yet, and the steps are at most those that
+-- its change costs, and none where it has no change.
+pub record MayUse (state : State) (m : Message) (moment : ℕ) (used : Used) : Type 0 where
+  pub moments : used.moments ≡ []
+  pub steps : used.cost ≤ cost_of state (change_of (judged state m moment))
+
+-- a record is put only for a request that has a change, and each turn uses no more than it may, whichever way it went
 abbrev pub MayGo : State → Message → Way → Type 0
-MayGo state m (served moment used) = used ≡ unused
-MayGo state m (no_memory used) = used ≡ unused
-MayGo state m (not_kept used) = (used ≡ unused) × HasChange state m
-MayGo state m (keeper_failed used) = (used ≡ unused) × HasChange state m
+MayGo state m (served moment used) = MayUse state m moment used
+MayGo state m (no_memory used) = (moment : ℕ) × MayUse state m moment used
+MayGo state m (not_kept used) = (moment : ℕ) × HasChange state m moment × MayUse state m moment used
+MayGo state m (keeper_failed used) = (moment : ℕ) × HasChange state m moment × MayUse state m moment used
 
 -- an outcome, and then another
 abbrev pub followed_by : Outcome → Outcome → Outcome

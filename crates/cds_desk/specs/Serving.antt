@@ -18,6 +18,8 @@ pub record Lasting : Type 0 where
   pub state : State
   -- what the keeper tells
   pub keeper : KeeperTold
+  -- how many steps were counted
+  pub steps : ℕ
 
 -- what is told at one time of the sink, and what outlives the connection
 pub record World : Type 0 where
@@ -25,12 +27,12 @@ pub record World : Type 0 where
   pub written : Option (List ℕ)
   pub lasting : Lasting
 
--- what outlives a connection: the state, and what the keeper tells
-abbrev pub lasting : State → KeeperTold → Lasting
-lasting state keeper = record { state = state; keeper = keeper }
+-- what outlives a connection: the state, what the keeper tells, and the steps
+abbrev pub lasting : State → KeeperTold → ℕ → Lasting
+lasting state keeper steps = record { state = state; keeper = keeper; steps = steps }
 
-abbrev pub world : Option (List ℕ) → State → KeeperTold → World
-world written state keeper = record { written = written; lasting = lasting state keeper }
+abbrev pub world : Option (List ℕ) → State → KeeperTold → ℕ → World
+world written state keeper steps = record { written = written; lasting = lasting state keeper steps }
 
 -- what is told at one time of the source
 pub record Reading : Type 0 where
@@ -41,13 +43,15 @@ abbrev pub reading : Option (List ℕ) → Option (List ℕ) → Reading
 reading given left = record { given = given; left = left }
 
 -- The records of the outcome stand behind those that the keeper held, and the state is the outcome's. Each put was
--- counted, and no other call; each failure was counted, and where there was none, that count is as before.
+-- counted, and no other call; each failure was counted, and where there was none, that count is as before. Each step
+-- was counted.
 pub record Changed (before now : Lasting) (outcome : Outcome) : Type 0 where
   pub content : now.keeper.content ≡ option_map (λ list. list ++ outcome.records) before.keeper.content
   pub state : now.state ≡ outcome.state
   pub puts : min (before.keeper.calls + outcome.puts) most_faults ≡ min now.keeper.calls most_faults
   pub failures : min (before.keeper.faults + outcome.failures) most_faults ≤ now.keeper.faults
   pub untouched : outcome.failures ≡ 0 → now.keeper.faults ≡ before.keeper.faults
+  pub steps : now.steps ≡ before.steps + outcome.cost
 
 -- What a load would find keeps step with what the keeper tells: if it was these records, or with one more behind them,
 -- it still is. If it was exactly these records, it still is where no put failed since, which the count of faults shows

@@ -1,5 +1,5 @@
 -- The command `session`: the store is loaded, and the source is served as one connection.
-use Rattle.std.specs.Prelude.{◌≡◌, ℕ, true, List, codes, ◌++◌, decimal, Option, Some, None, Result, Ok, Err, IfSome}
+use Rattle.std.specs.Prelude.{◌≡◌, ℕ, true, List, [], codes, ◌++◌, decimal, Option, Some, None, Result, Ok, Err, IfSome}
 use Rattle.cds_base.specs.Failing.{one_more}
 use Rattle.cds_desk.specs.State.{State}
 use Rattle.cds_keep.specs.Found.{Found, records, damaged}
@@ -29,9 +29,9 @@ damage_of (records list) = damage_in (opened list)
 abbrev pub damaged_line : ℕ → List ℕ
 damaged_line number = codes "damaged " ++ decimal number ++ codes "\n"
 
--- The store was opened by one load, before which the keeper told this: its records are those that the load found, where
--- that is told, and the told content; and this is the state that they make.
-pub record Opened (found : Option Found) (before : KeeperTold) : Type 0 where
+-- The store was opened by one load, before which the keeper told this and so many steps were counted: its records are
+-- those that the load found, where that is told, and the told content; and this is the state that they make.
+pub record Opened (found : Option Found) (before : KeeperTold) (counted : ℕ) : Type 0 where
   pub list : List (List ℕ)
   pub is_found : IfSome found (λ f. f ≡ records list)
   -- what the keeper tells once the store is open
@@ -43,8 +43,11 @@ pub record Opened (found : Option Found) (before : KeeperTold) : Type 0 where
   pub calls : keeper.calls ≡ one_more before.calls
   pub state : State
   pub opens : opened list ≡ Ok state
+  -- how many steps are counted once the store is open; a store without records is opened in none
+  pub steps : ℕ
+  pub no_step : list ≡ [] → steps ≡ counted
 
--- what is told at one time of the devices of a session
+-- what is told at one time of the devices of a session, and of the steps
 pub record SessionTold : Type 0 where
   -- the source
   pub source : Reading
@@ -54,15 +57,19 @@ pub record SessionTold : Type 0 where
   pub found : Option Found
   -- what the keeper tells
   pub keeper : KeeperTold
+  -- how many steps were counted
+  pub steps : ℕ
 
-abbrev pub session_told : Reading → Option (List ℕ) → Option Found → KeeperTold → SessionTold
-session_told source written found keeper = record { source = source; written = written; found = found; keeper = keeper }
+abbrev pub session_told : Reading → Option (List ℕ) → Option Found → KeeperTold → ℕ → SessionTold
+session_told source written found keeper steps =
+    record { source = source; written = written; found = found; keeper = keeper; steps = steps }
 
 -- the store was opened, and from its state the source was served until that ended so
 abbrev pub ServedUntil : Ended → SessionTold → SessionTold → Type 0
 ServedUntil ended before now =
-    (o : Opened before.found before.keeper) × (after : State)
-    × EndsAs ended (world before.written o.state o.keeper) (world now.written after now.keeper) before.source now.source
+    (o : Opened before.found before.keeper before.steps) × (after : State)
+    × EndsAs ended (world before.written o.state o.keeper o.steps) (world now.written after now.keeper now.steps)
+    before.source now.source
 
 -- the status of a session whose serving ended so
 abbrev pub status_of : Ended → Status

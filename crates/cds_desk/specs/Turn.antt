@@ -1,5 +1,6 @@
 -- The turn of one request, in its parts.
-use Rattle.std.specs.Prelude.{◌≡◌, ℕ, ◌++◌, Bool, List, Option, Some, None, option_map, is_some, IsTrue, ⊤, codes}
+use Rattle.std.specs.Prelude.{◌≡◌, ℕ, ◌+◌, ◌≤◌, ◌++◌, Bool, List, Option, Some, None, option_map, is_some, IsTrue, ⊤}
+use Rattle.std.specs.Prelude.{codes}
 use Rattle.std.specs.Prelude.{bytes_eq}
 use Rattle.cds_base.specs.Failing.{one_more}
 use Rattle.cds_base.specs.Faults.{Rose}
@@ -49,6 +50,10 @@ abbrev pub calls_after : Option Change → ℕ → ℕ
 calls_after (Some change) calls = one_more calls
 calls_after None calls = calls
 
+-- no more steps were counted than this
+abbrev pub TakesSteps : ℕ → ℕ → ℕ → Type 0
+TakesSteps most before now = (before ≤ now) × (now ≤ before + most)
+
 -- What comes of a request that was judged so: its response, with what it changes; or that memory was wanting, or the
 -- keeper failed, and nothing is changed. The record of a change is put once, and nothing else; the keeper's count of
 -- faults rises only where the answer says that it failed.
@@ -59,7 +64,7 @@ Comes before now j text (Response response) =
     × (now.keeper.content ≡ option_map (λ list. list ++ records_of (change_of j)) before.keeper.content)
     × (now.keeper.faults ≡ before.keeper.faults)
     × (now.keeper.calls ≡ calls_after (change_of j) before.keeper.calls)
-Comes before now j text NoMemory = now ≡ before
+Comes before now j text NoMemory = (now.state ≡ before.state) × (now.keeper ≡ before.keeper)
 Comes before now j text NotKept =
     IsTrue (is_some (change_of j))
     × (now.state ≡ before.state)

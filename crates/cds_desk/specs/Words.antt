@@ -82,11 +82,6 @@ pub data TopCommand : Type 0 where
 abbrev pub command_of : List (List ℕ) → Option TopCommand
 command_of words = if is_session words then Some (session []) else option_map peaks (options_of words)
 
--- the command is `session`
-abbrev pub IsSession : TopCommand → Type 0
-IsSession (peaks options) = ⊥
-IsSession (session store) = ⊤
-
 -- what a command of the program is
 abbrev pub command_is : CommandLine → TopCommand
 command_is (Peaks options) = peaks options

@@ -69,7 +69,7 @@ impl Desk {
         Ok(Desk {
             alloc,
             router: route_table(alloc)?,
-            state: State::new(alloc),
+            state: State::new(alloc, steps)?,
         })
     }
 }

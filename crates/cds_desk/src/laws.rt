@@ -13,12 +13,15 @@ ghost use Rattle.cds_desk.specs.Repeat.{IsUnchanged};
 ghost use Rattle.cds_base.specs.NameText.{IsName};
 ghost use Rattle.cds_desk.specs.Routes.{path_number, path_with, number_of_path, target_of};
 ghost use Rattle.cds_desk.specs.declared.routes.Route.{Route};
-ghost use Rattle.cds_desk.specs.State.{State, after_change};
+ghost use Rattle.cds_desk.specs.State.{State, after_change, cost_of};
+ghost use Rattle.cds_desk.specs.Service.{Way, MayGo, turn};
+ghost use Rattle.cds_graph.specs.Keys.{fresh};
 ghost use Rattle.cds_desk.specs.Judged.{change_of};
 ghost use Rattle.cds_desk.specs.Step.{judged, step};
 ghost use Rattle.cds_desk.specs.Words.{number_limit};
 
 use cds_book::{a_change_is_what_was_asked, a_repeated_change_changes_nothing};
+use cds_graph::nothing_is_new_where_nothing_changed;
 
 /// A request that changed the state, repeated at once: it changes nothing, and its reply is 200 and says that nothing
 /// changed.
@@ -42,6 +45,18 @@ pub fn a_step_answers_neither_503_nor_507()
     ensures { (state : State) (m : Message) (moment : ℕ) → ((step state m moment).reply.status ≢ 503)
         × ((step state m moment).reply.status ≢ 507) }
 {}
+
+/// What the turn of a request costs at most: the steps of the rows and the noises whose keys the step of the machine
+/// makes new. A request that only reads, is refused or changes nothing takes no step, whichever way its turn goes.
+pub fn a_turn_costs_what_its_step_makes_new()
+    ensures new { (state : State) (m : Message) (moment : ℕ) → cost_of state (change_of (judged state m moment))
+        ≡ fresh state.tables (step state m moment).state.tables }
+    ensures none { (state : State) (m : Message) (way : Way)
+        → ((moment : ℕ) → change_of (judged state m moment) ≡ None) → MayGo state m way
+        → (turn state m way).cost ≡ 0 }
+{
+    nothing_is_new_where_nothing_changed();
+}
 
 /// Items that are served one after the other have one outcome in all: what is written is what is written for each in
 /// turn, the state is that after the last, and the records that are kept are those of each in turn.

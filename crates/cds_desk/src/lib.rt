@@ -27,9 +27,9 @@ pub use answer::TOO_MANY_BYTES;
 pub use desk::{Desk, OpenError};
 pub use judged::Judged;
 pub use laws::{
-    a_step_answers_neither_503_nor_507, each_route_is_found_by_its_path,
-    refused_request_changes_nothing, repeated_request_changes_nothing,
-    served_items_have_one_outcome, the_limits,
+    a_step_answers_neither_503_nor_507, a_turn_costs_what_its_step_makes_new,
+    each_route_is_found_by_its_path, refused_request_changes_nothing,
+    repeated_request_changes_nothing, served_items_have_one_outcome, the_limits,
 };
 pub use routes::Route;
 pub use serving::Ended;

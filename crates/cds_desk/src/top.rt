@@ -1,9 +1,9 @@
 //! The top call.
 
-ghost use Rattle.std.specs.Prelude.{◌≡◌, ◌≤◌, map, IfSome};
+ghost use Rattle.std.specs.Prelude.{◌≡◌, ◌≤◌, map};
 ghost use Rattle.std.specs.String.{string_bytes};
 ghost use Rattle.cds_respond.specs.Sending.{Sent};
-ghost use Rattle.cds_desk.specs.Words.{command_of, IsSession};
+ghost use Rattle.cds_desk.specs.Words.{command_of};
 ghost use Rattle.cds_desk.specs.Statuses.{exit_number};
 ghost use Rattle.cds_desk.specs.Run.{Ran, StreamsEnd, streams, devices};
 ghost use Rattle.cds_desk.specs.declared.status.Status.{Status};
@@ -34,7 +34,8 @@ const USAGE: &[u8] = b"usage: cds peaks|session|serve|demo|migrate\n";
 /// to the sink: 0 where the source was read to its end or to a request that closes the connection, 1 where the last
 /// response tells a fault of the stream, 3 and 4 where the source or the sink failed, 5 where the keeper failed in
 /// the load, and nothing was then read or written, and 8 where the store is damaged, which `damaged` and the
-/// record's number tell.
+/// record's number tell. It takes no more steps than the changes of its requests cost, of which each costs those of
+/// the rows and noises whose keys it makes new; so a session of requests that only read takes none.
 ///
 /// Other words are no command: the line of usage is written, and nothing is read or loaded (status 2). A sink that
 /// fails in the line of 2, of 8 or of a refused trace leaves that status. Status 6 is want of memory, and nothing is
@@ -51,13 +52,11 @@ pub fn run<S: Source, W: Sink, K: Keeper, C: Clock, D: Door, L: Ledger>(
 ) -> u8
     ensures ran { (ended : Status) × (result ≡ exit_number ended) × Ran (command_of (map string_bytes words.now)) ended
         (devices (streams source.old (S.told source.old) sink.old (W.told sink.old)) keeper.old (K.told keeper.old)
-        (K.finds keeper.old))
+        (K.finds keeper.old) steps.old)
         (devices (streams source.new (S.told source.new) sink.new (W.told sink.new)) keeper.new (K.told keeper.new)
-        (K.finds keeper.new))
+        (K.finds keeper.new) steps.new)
         × StreamsEnd ended (streams source.old (S.told source.old) sink.old (W.told sink.old))
         (streams source.new (S.told source.new) sink.new (W.told sink.new)) }
-    ensures session_takes_no_step { IfSome (command_of (map string_bytes words.now))
-        (λ asked. IsSession asked → steps.new ≡ steps.old) }
     ensures keeper_counts { (K.told keeper.old).faults ≤ (K.told keeper.new).faults }
     ensures clock_stays { clock.new ≡ clock.old }
     ensures door_stays { _door.new ≡ _door.old }
@@ -77,13 +76,11 @@ fn carry_out<S: Source, W: Sink, K: Keeper, C: Clock, L: Ledger>(
 ) -> Status
     ensures ran { Ran (command_of (map string_bytes words.now)) result
         (devices (streams source.old (S.told source.old) sink.old (W.told sink.old)) keeper.old (K.told keeper.old)
-        (K.finds keeper.old))
+        (K.finds keeper.old) steps.old)
         (devices (streams source.new (S.told source.new) sink.new (W.told sink.new)) keeper.new (K.told keeper.new)
-        (K.finds keeper.new)) }
+        (K.finds keeper.new) steps.new) }
     ensures ends { StreamsEnd result (streams source.old (S.told source.old) sink.old (W.told sink.old))
         (streams source.new (S.told source.new) sink.new (W.told sink.new)) }
-    ensures session_takes_no_step { IfSome (command_of (map string_bytes words.now))
-        (λ asked. IsSession asked → steps.new ≡ steps.old) }
     ensures keeper_counts { (K.told keeper.old).faults ≤ (K.told keeper.new).faults }
     ensures clock_stays { clock.new ≡ clock.old }
 {

@@ -2,7 +2,8 @@
 ghost use Rattle.std.specs.Prelude.{◌≡◌, ◌≤◌, ◌<◌, true, length, ℕ, List, Option, Some, None, IfOk, IfSome, OnOk};
 ghost use Rattle.std.specs.Prelude.{OnErr};
 ghost use Rattle.cds_base.specs.Faults.{Rose};
-ghost use Rattle.cds_book.specs.Plan.{room_of};
+ghost use Rattle.cds_book.specs.Plan.{applied, room_of};
+ghost use Rattle.cds_graph.specs.Graph.{StandsFor};
 ghost use Rattle.cds_base.specs.Told.{then_more};
 ghost use Rattle.cds_keep.specs.declared.keeper.TheConstants.{RECORD_LIMIT};
 ghost use Rattle.cds_respond.specs.Sending.{HoldsPart};
@@ -11,20 +12,23 @@ ghost use Rattle.cds_respond.specs.Response.{response_text};
 ghost use Rattle.cds_desk.specs.Routes.{route_table};
 ghost use Rattle.cds_desk.specs.Judged.{reply_of, change_of};
 ghost use Rattle.cds_desk.specs.Commands.{IsPlanned};
-ghost use Rattle.cds_desk.specs.Turn.{judged_of, KeepsChange, Comes, answered_text};
+ghost use Rattle.cds_desk.specs.State.{cost_of};
+ghost use Rattle.cds_desk.specs.Turn.{judged_of, KeepsChange, TakesSteps, Comes, answered_text};
 
 use crate::judge::judge;
 use crate::judged::Judged;
 use crate::routes::Route;
 use crate::state::State;
 use crate::target::read_target;
-use cds_base::{Bytes, Clock, Failed, NoMemory, Sink};
+use cds_base::{Bytes, Clock, Failed, NoMemory, Sink, Steps};
 use cds_book::Change;
 use cds_codec::write;
+use cds_graph::Prepared;
 use cds_keep::{Keeper, PutError};
 use cds_respond::{Fixed, response_text, send, send_fixed};
 use matchit::Router;
 use std::alloc::Global;
+use std::sync::ledger::Ledger;
 
 /// A whole request, in its parts.
 #[derive(Clone, Copy, Debug)]
@@ -38,16 +42,17 @@ pub(crate) struct Asked<'m> {
     pub(crate) without_body: bool,
 }
 
-/// A change, and its record.
+/// A change, its record, and the graph that stands for the tables after it.
 #[derive(Drop)]
 pub(crate) struct Kept {
     change: Change,
     record: Bytes,
+    graph: Prepared,
 }
 
 /// An answer before anything is changed: the response, and the change that is to be kept.
 #[derive(Drop)]
-struct Prepared {
+struct Ready {
     response: Bytes,
     kept: Option<Kept>,
 }
@@ -65,16 +70,17 @@ pub(crate) enum Answered {
     KeeperFailed,
 }
 
-/// Prepares the answer to a request. Nothing is changed, but room is taken for the change. No request asks the clock
-/// yet.
+/// Prepares the answer to a request. Nothing is changed, but room is taken for the change, and the graph after it is
+/// built. No request asks the clock yet.
 #[tactic(auto, unfolding(crate::specs::Turn::judged_of))]
-fn prepare<C: Clock>(
+fn prepare<C: Clock, L: Ledger>(
     alloc: Global,
     router: &Router<Route>,
     state: &mut State,
     _clock: &mut C,
+    steps: &mut Steps<L>,
     asked: Asked<'_>,
-) -> Result<Prepared, NoMemory>
+) -> Result<Ready, NoMemory>
     requires { router.now ≡ route_table }
     ensures held { state.new.held ≡ state.old.held }
     ensures response { IfOk result (λ p. p.response ≡ response_text
@@ -82,71 +88,90 @@ fn prepare<C: Clock>(
     ensures kept { IfOk result (λ p. KeepsChange (change_of (judged_of state.old.held asked.entry)) p.kept) }
     ensures room { IfOk result (λ p. IfSome p.kept (λ k. state.new.room ≡ room_of state.old.held.tables k.change)) }
     ensures accepted { IfOk result (λ p. IfSome p.kept (λ k. IsPlanned state.old.held k.change)) }
+    ensures stands { IfOk result (λ p. IfSome p.kept
+        (λ k. StandsFor (applied state.old.held.tables k.change) k.graph)) }
+    ensures steps { TakesSteps (cost_of state.old.held (change_of (judged_of state.old.held asked.entry)))
+        steps.old steps.new }
     ensures short { IfOk result (λ p. IfSome p.kept (λ k. length k.record < RECORD_LIMIT)) }
     ensures clock_stays { _clock.new ≡ _clock.old }
 {
     let target = read_target(router, asked.target);
     match judge(alloc, state, target, asked.method, asked.body)? {
-        Judged::Reply(reply) => Ok(Prepared {
+        Judged::Reply(reply) => Ok(Ready {
             response: response_text(alloc, &reply, asked.close, asked.without_body)?,
             kept: None,
         }),
-        Judged::Change { reply, change } => Ok(Prepared {
+        Judged::Change { reply, change } => Ok(Ready {
             response: response_text(alloc, &reply, asked.close, asked.without_body)?,
-            kept: Some(prepare_change(alloc, state, change)?),
+            kept: Some(prepare_change(alloc, state, steps, change)?),
         }),
     }
 }
 
-/// Prepares a change: its record is made, and room is taken for it.
+/// Prepares a change: its record is made, room is taken for it, and the graph after it is built.
 #[tactic(auto, using(crate::proofs::TurnLaws::planned_has_record, crate::proofs::TurnLaws::planned_short))]
-fn prepare_change(alloc: Global, state: &mut State, change: Change) -> Result<Kept, NoMemory>
+fn prepare_change<L: Ledger>(
+    alloc: Global,
+    state: &mut State,
+    steps: &mut Steps<L>,
+    change: Change,
+) -> Result<Kept, NoMemory>
     requires { IsPlanned state.old.held change }
     ensures held { state.new.held ≡ state.old.held }
     ensures kept { IfOk result (λ k. KeepsChange (Some change) (Some k)) }
     ensures room { IfOk result (λ k. state.new.room ≡ room_of state.old.held.tables change) }
     ensures short { IfOk result (λ k. length k.record < RECORD_LIMIT) }
+    ensures stands { IfOk result (λ k. StandsFor (applied state.old.held.tables change) k.graph) }
+    ensures steps { TakesSteps (cost_of state.old.held (Some change)) steps.old steps.new }
 {
     let record = write(alloc, &change)?;
-    state.reserve(&change)?;
-    Ok(Kept { change, record })
+    let graph = state.prepare(&change, steps)?;
+    Ok(Kept {
+        change,
+        record,
+        graph,
+    })
 }
 
 #[tactic(auto, using(crate::proofs::TurnLaws::finds_same, crate::proofs::TurnLaws::finds_put, crate::proofs::TurnLaws::finds_failed))]
 /// Answers a request. A change is put to the keeper once, when all else is prepared, and then carried out; where
-/// memory is wanting or the keeper fails, all is as before.
-pub(crate) fn answer<K: Keeper, C: Clock>(
+/// memory is wanting or the keeper fails, all is as before. No more steps than the change costs, however it ends, and
+/// none without a change.
+pub(crate) fn answer<K: Keeper, C: Clock, L: Ledger>(
     alloc: Global,
     router: &Router<Route>,
     state: &mut State,
     keeper: &mut K,
     clock: &mut C,
+    steps: &mut Steps<L>,
     asked: Asked<'_>,
 ) -> Answered
     requires routes { router.now ≡ route_table }
     requires opened { (K.told keeper.old).is_open ≡ true }
     ensures comes { Comes
-        (lasting state.old.held (K.told keeper.old))
-        (lasting state.new.held (K.told keeper.new))
+        (lasting state.old.held (K.told keeper.old) steps.old)
+        (lasting state.new.held (K.told keeper.new) steps.new)
         (judged_of state.old.held asked.entry)
         (response_text (reply_of (judged_of state.old.held asked.entry)) asked.entry.close asked.entry.without_body)
         result }
+    ensures steps { TakesSteps (cost_of state.old.held (change_of (judged_of state.old.held asked.entry)))
+        steps.old steps.new }
     ensures finds { (name : List ℕ)
         → FindsOn (K.finds keeper.old name) (K.finds keeper.new name) (K.told keeper.old) (K.told keeper.new) }
     ensures stays_open { (K.told keeper.new).is_open ≡ true }
     ensures counts { (K.told keeper.old).faults ≤ (K.told keeper.new).faults }
     ensures clock_stays { clock.new ≡ clock.old }
 {
-    let Ok(prepared) = prepare(alloc, router, state, clock, asked) else {
+    let Ok(ready) = prepare(alloc, router, state, clock, steps, asked) else {
         return Answered::NoMemory;
     };
-    let Prepared { response, kept } = prepared;
+    let Ready { response, kept } = ready;
     let Some(kept) = kept else {
         return Answered::Response(response);
     };
     match keeper.put(kept.record.as_slice()) {
         Ok(()) => {
-            state.apply(kept.change);
+            state.apply(kept.change, kept.graph);
             Answered::Response(response)
         }
         Err(PutError::NoMemory) => Answered::NotKept,

@@ -17,6 +17,7 @@ returns-in-Err-Damaged-clause-ran g c =
         stores_nothing = search rules;
         loads_once = search rules;
         reads_nothing = search rules;
+        takes_no_step = search rules;
         count_stays = search rules;
         keeper_failed = search rules;
         damaged = λ _. (c.in-Err-Damaged.number, damage_found _ _ found, sent);
@@ -42,8 +43,9 @@ returns-clause-ran g c =
               (g.W.Sink.told c.args.sink.now).written (g.W.Sink.told c.serve_connection-ended.new.sink).written
               (reading (g.S.Source.told c.args.source.now).given (g.S.Source.told c.args.source.now).left)
               (reading (g.S.Source.told c.serve_connection-ended.new.source).given (g.S.Source.told c.serve_connection-ended.new.source).left)
+              c.args.steps.now c.serve_connection-ended.new.steps
               c.in-Ok.ensures.found c.in-Ok.ensures.holds c.in-Ok.ensures.opened count c.in-Ok.ensures.called c.in-Ok-open.ensures.opens
-              c.serve_connection-ended.ensures.ends,
+              (rw c.in-Ok-open.ensures.steps at c.serve_connection-ended.ensures.ends),
         );
         stays_open = search rules;
         finds_more = λ name.
@@ -59,6 +61,7 @@ returns-clause-ran g c =
                 ∙ finds_again _ _ _ _ c.in-Ok.ensures.found (c.in-Ok.ensures.finds_list c.args.store.now) (c.load.ensures.tells_finds c.args.store.now);
             loads_once = ap (λ k. (g.K.Keeper.told k).calls) same.3 ∙ c.in-Ok.ensures.called;
             reads_nothing = same.1;
+            takes_no_step = same.4 ∙ c.in-Ok-open.ensures.steps;
             count_stays = λ _. ap (λ k. (g.K.Keeper.told k).faults) same.3 ∙ count;
             keeper_failed = λ f. absurd (not_for_keeper e (sym c.status_of.ensures ∙ f));
             damaged = λ f. absurd (not_for_damage e (sym c.status_of.ensures ∙ f));

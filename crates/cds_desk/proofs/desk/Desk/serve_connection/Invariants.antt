@@ -7,8 +7,8 @@ use Rattle.cds_desk.proofs.desk.Desk.serve_connection.Given as goal
 abbrev pub invariant-loop-source : goal.invariant-loop-source
 invariant-loop-source g l = record {
   so_far : SoFar
-      (world (g.W.Sink.told l.initial.sink).written l.initial.self (g.K.Keeper.told l.initial.keeper))
-      (world (g.W.Sink.told l.sink).written l.self (g.K.Keeper.told l.keeper))
+      (world (g.W.Sink.told l.initial.sink).written l.initial.self (g.K.Keeper.told l.initial.keeper) l.initial.steps)
+      (world (g.W.Sink.told l.sink).written l.self (g.K.Keeper.told l.keeper) l.steps)
       (reading (g.S.Source.told l.initial.source).given (g.S.Source.told l.initial.source).left)
       (reading (g.S.Source.told l.source).given (g.S.Source.told l.source).left)
       l.messages;
