@@ -2,12 +2,11 @@
 use Rattle.std.proofs.Common.{◌≡◌, ℕ, zero, suc, ◌+◌, ◌-◌, ◌*◌, ◌/◌, ◌%◌, ◌<◌, ◌≤◌, true, false, refl, sym, ap, ◌∙◌, arith}
 use Rattle.std.specs.Prelude.{nat_le}
 use Rattle.std.proofs.lemmas.Bool.Decides.{nat_tests}
-use Rattle.httpdate.specs.Calendar.{days_of_years, days_of_months, days_from_civil, weekday, IsCivilDate}
+use Rattle.httpdate.specs.Calendar.{days_of_years, days_of_months, days_from_civil, IsCivilDate}
 use Rattle.httpdate.specs.Date.{unix_secs, date_text}
 use Rattle.httpdate.specs.Text.{imf_fixdate}
 use Rattle.httpdate.specs.declared.date.HttpDate.{HttpDate}
-use Rattle.httpdate.specs.declared.parts.Parts.{Parts}
-use Rattle.httpdate.proofs.CalendarLemmas.{days_from_civil_year, days_from_civil_month, days_from_civil_bound}
+use Rattle.httpdate.proofs.CalendarLemmas.{days_from_civil_year, days_from_civil_month}
 use Rattle.cds_base.proofs.SearchLaws.{greatest-is}
 use Rattle.cds_report.specs.Dates.{years_before, months_before, parts_of_day, date_of}
 

@@ -1,2 +1,10 @@
 pub mod PeaksText
 pub mod Dates
+pub mod Lines
+pub mod Words
+pub mod Reported
+pub mod RowText
+pub mod SequenceText
+pub mod SuitabilityText
+pub mod SignedText
+pub mod Shown

@@ -1,0 +1,10 @@
+use Rattle.std.proofs.Common.{◌∙◌}
+use Rattle.cds_book.specs.Tables.{numbered}
+use Rattle.cds_report.specs.Shown.{no_results}
+use Rattle.cds_report.proofs.LookLaws.{looked, none-numbered}
+use Rattle.cds_report.proofs.looks.lines_of.Goals as goal
+
+pub returns : goal.returns
+unfolding no_results
+returns c =
+    c.lines.ensures ∙ looked c.args.graph.now c.args.name (λ results. numbered results.checks c.args.check) (none-numbered c.args.check)
