@@ -47,16 +47,6 @@ method-known t nodes keys i k within is before found =
     (λ (n : HeldMethod). method_node_key n.value) (method_under t) (λ (x : KeptMethod). x.key) (λ n. refl) (λ k. refl)
     nodes keys i k within is before found
 
--- the key of a method that isn't known is new
-pub method-unknown : (t : TablesState) (nodes : List HeldMethod) (keys : List MethodKey) (i : ℕ) (k : MethodKey) →
-    MethodsOf t (take i keys) (methods_shown nodes) → is_some (method_found nodes k) ≡ false →
-    list_any (same_method_key k) (once same_method_key (take i keys)) ≡ false
-unfolding method_under
-method-unknown t nodes keys i k before none =
-    key-new same_method_key same_method_key-Decides (λ (n : HeldMethod). method_node_shown n.value)
-    (λ (n : HeldMethod). method_node_key n.value) (method_under t) (λ (x : KeptMethod). x.key) (λ n. refl) (λ k. refl)
-    nodes keys i k before none
-
 -- and the method is kept behind the others
 pub method-added : (t : TablesState) (nodes : List HeldMethod) (node : HeldMethod) (keys : List MethodKey) (i : ℕ)
     (k : MethodKey) → i < length keys → k ≡ get_or keys i k → MethodsOf t (take i keys) (methods_shown nodes) →

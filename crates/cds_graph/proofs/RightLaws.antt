@@ -98,15 +98,6 @@ module _ (before after : TablesState) (keeps : KeepsVersions before after) where
             (All-of_map (HoldsInputs before) _ before.sequences there));
       }
 
--- what keeps nothing is right
-pub empty-right : (t : TablesState) → IsRight t empty_graph
-empty-right t = record {
-  methods = All-nil (λ (m : KeptMethod). m ≡ method_under t m.key);
-  rows = All-nil (λ (r : KeptRow). r ≡ row_under t r.key);
-  noises = All-nil (λ (n : KeptNoise). n ≡ noise_under t n.key);
-  sequences = All-nil (IsRightSequence t);
-}
-
 -- the keys of what is kept under keys are the keys
 keys-kept : {K R : Type 0} (make : K → R) (key_of : R → K) → ((k : K) → key_of (make k) ≡ k) → (keys : List K) →
     map key_of (map make keys) ≡ keys

@@ -36,7 +36,7 @@ impl Model for Graph {
 /// A graph that was built for a change, and is put in place of the one before by `commit`. Seen as that graph.
 #[derive(Debug, Drop)]
 pub struct Prepared {
-    graph: Graph,
+    pub(crate) graph: Graph,
 }
 
 impl Model for Prepared {

@@ -51,4 +51,8 @@ pub use limits::{NOISE_STEPS, ROW_STEPS};
 pub use method::{MethodKey, MethodNode};
 
 #[cfg(test)]
+mod turn_lines;
+#[cfg(test)]
 mod worked_rows;
+#[cfg(test)]
+mod worked_turns;

@@ -111,7 +111,7 @@ fn is_some(noise: Result<u32, Missing>) -> bool
     }
 }
 
-fn name_of(text: &str) -> Result<Name, Fail> {
+pub(crate) fn name_of(text: &str) -> Result<Name, Fail> {
     Ok(Name::new(text.as_bytes()).ok_or("a name")?)
 }
 
@@ -148,7 +148,7 @@ fn of_area(alloc: Global, area: u32) -> Result<Vec<i32>, Fail> {
     Ok(samples)
 }
 
-fn numbers_of(alloc: Global, text: &str) -> Result<Vec<i32>, Fail> {
+pub(crate) fn numbers_of(alloc: Global, text: &str) -> Result<Vec<i32>, Fail> {
     let mut samples = Vec::new(alloc);
     for word in text.split_whitespace() {
         samples.push(word.parse::<i32>()?)?;
@@ -300,7 +300,7 @@ fn evaluated_of(
     Ok(evaluated(alloc, found)?)
 }
 
-fn value_text(alloc: Global, value: Result<Frac, Missing>) -> Result<String, Fail> {
+pub(crate) fn value_text(alloc: Global, value: Result<Frac, Missing>) -> Result<String, Fail> {
     match value {
         Ok(number) => Ok(format!(in alloc; "{}/{}", number.num(), number.den())?),
         Err(cause) => Ok(format!(in alloc; "{cause:?}")?),
@@ -319,7 +319,7 @@ fn amounts_text(alloc: Global, node: &SequenceNode, n: u32) -> Result<String, Fa
     }
 }
 
-fn line_text(alloc: Global, line: &CheckLine) -> Result<String, Fail> {
+pub(crate) fn line_text(alloc: Global, line: &CheckLine) -> Result<String, Fail> {
     let value = value_text(alloc, line.value)?;
     let verdict = line.verdict;
     match line.row {
