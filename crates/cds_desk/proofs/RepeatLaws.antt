@@ -101,6 +101,9 @@ module _ (asked_for : (tables : TablesState) (asked : Command) (c : Change) → 
   target_again state route.PostReprocess name number body some = asked_again state (stated_in (reprocess_of name) body) some
   target_again state route.GetTrace name version body some = absurd (cc)
   target_again state route.GetMethod name version body some = absurd (cc)
+  target_again state route.GetResults name number body some = absurd (cc)
+  target_again state route.GetRow name n body some = absurd (cc)
+  target_again state route.GetSuitability name number body some = absurd (cc)
   target_again state route.GetSignature name number body some = absurd (cc)
 
   method_again : (state : State) (t : Target) (method body : List ℕ) (same : Bool) → bytes_eq method (method_on t.route) ≡ same
@@ -174,6 +177,9 @@ target_unmade state route.GetMethod name version body = λ is. refl
 target_unmade state route.PutSequence name number body = asked_unmade state (stated_in (stated_sequence name) body)
 target_unmade state route.PutEvents name row body = asked_unmade state (stated_in (put_events_of name row) body)
 target_unmade state route.PostReprocess name number body = asked_unmade state (stated_in (reprocess_of name) body)
+target_unmade state route.GetResults name number body = λ is. refl
+target_unmade state route.GetRow name n body = λ is. refl
+target_unmade state route.GetSuitability name number body = λ is. refl
 target_unmade state route.GetSignature name number body = λ is. refl
 
 method_unmade : (state : State) (t : Target) (method body : List ℕ) (same : Bool) → bytes_eq method (method_on t.route) ≡ same → Unmade (judged_method state t method body)

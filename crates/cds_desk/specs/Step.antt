@@ -2,6 +2,7 @@
 -- moment.
 use Rattle.std.specs.Prelude.{ℕ, List, [], ◌∷◌, bytes_eq, Option, Some, None, Result, Ok, Err, option_map, is_some}
 use Rattle.std.specs.Prelude.{if◌then◌else◌}
+use Rattle.std.specs.Option.{option_and_then}
 use Rattle.cds_trace.specs.Signal.{Signal}
 use Rattle.cds_trace.specs.TraceText.{csv_trace}
 use Rattle.cds_trace.specs.WrittenText.{csv_text}
@@ -27,7 +28,11 @@ use Rattle.cds_desk.specs.State.{State, after_change}
 use Rattle.cds_desk.specs.Routes.{target_of, method_of as method_on}
 use Rattle.cds_desk.specs.Judged.{reply_of, change_of}
 use Rattle.cds_desk.specs.Refusals.{no_route, other_method, csv_reply, toml_reply, refused_field, body_reply}
-use Rattle.cds_desk.specs.Refusals.{absent_version, absent_signature}
+use Rattle.cds_desk.specs.Refusals.{absent_version, absent_sequence, absent_row, absent_signature}
+use Rattle.cds_report.specs.Reported.{reported_of}
+use Rattle.cds_report.specs.RowText.{row_text}
+use Rattle.cds_report.specs.SequenceText.{sequence_text}
+use Rattle.cds_report.specs.SuitabilityText.{suitability_text}
 use Rattle.cds_desk.specs.Commands.{commanded}
 use Rattle.cds_desk.specs.declared.judged.Judged.{Judged}
 use Rattle.cds_desk.specs.declared.judged.Judged.TheVariants as judging
@@ -36,6 +41,15 @@ use Rattle.cds_desk.specs.declared.routes.Route.TheVariants as route
 use Rattle.cds_desk.specs.declared.target.Target.{Target}
 
 -- ---- what the routes come to
+
+-- the reply with a plain text
+abbrev pub plain_reply : List ℕ → Reply
+plain_reply text = record { status = 200; content = content.Plain; allow = None; body = text }
+
+-- the reply with a text, where it is there, and else this refusal
+abbrev pub text_shown : Reply → Option (List ℕ) → Reply
+text_shown absent (Some text) = plain_reply text
+text_shown absent None = absent
 
 -- the reply with the text of a version, where it is there
 abbrev pub version_shown : ℕ → List ℕ → ℕ → Option ℕ → Content → Option (List ℕ) → Reply
@@ -85,6 +99,13 @@ judged_on state route.GetMethod name version body =
 judged_on state route.PutSequence name number body = asked_in state (stated_in (stated_sequence name) body)
 judged_on state route.PutEvents name row body = asked_in state (stated_in (put_events_of name row) body)
 judged_on state route.PostReprocess name number body = asked_in state (stated_in (reprocess_of name) body)
+judged_on state route.GetResults name number body =
+    judging.Reply (text_shown (absent_sequence name) (option_map sequence_text (reported_of state.tables name)))
+judged_on state route.GetRow name n body =
+    judging.Reply (text_shown (absent_row name n (is_some (sequence_of state.tables name)))
+    (option_and_then (row_text n) (reported_of state.tables name)))
+judged_on state route.GetSuitability name number body =
+    judging.Reply (text_shown (absent_sequence name) (option_map suitability_text (reported_of state.tables name)))
 judged_on state route.GetSignature name number body =
     judging.Reply (signature_shown name number (sequence_of state.tables name) (signed_of state.tables name number))
 

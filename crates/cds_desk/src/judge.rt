@@ -8,6 +8,7 @@ ghost use Rattle.cds_desk.specs.Step.{judged_target, judged_method, judged_route
 use crate::judged::Judged;
 use crate::methods::{freeze_draft, method_text, put_draft};
 use crate::refusals::{no_route, other_method};
+use crate::reports::{results, row, suitability};
 use crate::routes::Route;
 use crate::sequences::{put_events, put_sequence, rebind, signature_text};
 use crate::state::State;
@@ -77,6 +78,9 @@ fn judge_target(
         Route::PutSequence => put_sequence(alloc, state, name, body),
         Route::PutEvents => put_events(alloc, state, name, number, body),
         Route::PostReprocess => rebind(alloc, state, name, body),
+        Route::GetResults => Ok(Judged::Reply(results(alloc, state, name)?)),
+        Route::GetRow => Ok(Judged::Reply(row(alloc, state, name, number)?)),
+        Route::GetSuitability => Ok(Judged::Reply(suitability(alloc, state, name)?)),
         Route::GetSignature => Ok(Judged::Reply(signature_text(alloc, state, name, number)?)),
     }
 }

@@ -11,6 +11,7 @@ mod laws;
 mod methods;
 mod peaks;
 mod refusals;
+mod reports;
 mod routes;
 mod sequences;
 mod serving;
@@ -37,6 +38,8 @@ pub use status::Status;
 pub use target::Target;
 pub use top::run;
 
+#[cfg(test)]
+mod report_tests;
 #[cfg(test)]
 mod test_devices;
 #[cfg(test)]

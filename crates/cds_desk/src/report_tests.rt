@@ -1,0 +1,228 @@
+//! Tests of the reports of sequences, through the top call: each row is a request and its reply, in one session.
+
+use crate::test_devices::{over, words_of};
+use cds_base::{MemSink, MemSource};
+use cds_keep::MapKeeper;
+use std::alloc::Global;
+use std::test::Fail;
+
+const TRACE: &str = "time_us,signal
+0,0
+1000000,0
+2000000,0
+3000000,10
+4000000,40
+5000000,60
+6000000,40
+7000000,10
+8000000,0
+9000000,0
+10000000,0
+";
+
+const METHOD: &str = r#"bunch = 1
+slope_on = 5
+slope_off = 5
+plateau = 3
+fuse = 2
+min_area = 1
+min_height = 1
+weight = "origin"
+[[component]]
+name = "caf"
+time_ms = 5000
+window_ms = 500
+[[check]]
+kind = "tailing"
+component = "caf"
+limit = 200
+"#;
+
+const SEQUENCE: &str = r#"{"edition":0,"method":{"name":"m","version":0},"standards":["b1"],
+"rows":[{"label":"S1","kind":"standard","trace":"one","version":0,"amounts":{"caf":16}},
+{"label":"X1","kind":"sample","trace":"one","version":0},
+{"label":"R1","kind":"replicate","trace":"one","version":0}]}
+"#;
+
+const RESULTS: &str = "sequence b1 edition 1 basis 1
+method m 1
+standards b1 m 1
+standard 1 one 1 used
+line caf points 1 slope 10000.000000 intercept 0.000000 r2 TooFew
+row 1 S1 standard one 1
+peak 1 caf 5000000 1 8 160000 60 19.47 1.00
+row 2 X1 sample one 1
+peak 1 caf 5000000 1 8 160000 60 19.47 1.00
+amount caf 16.0000
+row 3 R1 replicate one 1
+peak 1 caf 5000000 1 8 160000 60 19.47 1.00
+";
+
+const ROW: &str = "row 2 X1 sample one 1
+peak 1 caf 5000000 1 8 160000 60 19.47 1.00
+amount caf 16.0000
+";
+
+const SUITABILITY: &str = "suitability b1 basis 1
+check 1 tailing caf row 3 1.00 Pass
+verdict Pass
+";
+
+const INHIBIT: &str = r#"{"edition":1,"events":[{"kind":"inhibit","from_ms":0,"to_ms":6000}]}"#;
+
+const INHIBITED: &str = "sequence b1 edition 2 basis 2
+method m 1
+standards b1 m 1
+standard 1 one 1 used
+line caf TooFew
+row 1 S1 standard one 1
+row 2 X1 sample one 1
+peak 1 caf 5000000 1 8 160000 60 19.47 1.00
+amount caf TooFew
+row 3 R1 replicate one 1
+peak 1 caf 5000000 1 8 160000 60 19.47 1.00
+";
+
+// A request, and its reply where it has one.
+#[derive(Clone, Copy)]
+struct Exchange {
+    line: &'static str,
+    body: &'static str,
+    status: &'static str,
+    media: &'static str,
+    reply: &'static str,
+}
+
+const JSON: &str = "application/json";
+
+const PLAIN: &str = "text/plain";
+
+fn json(
+    line: &'static str,
+    body: &'static str,
+    status: &'static str,
+    reply: &'static str,
+) -> Exchange {
+    Exchange {
+        line,
+        body,
+        status,
+        media: JSON,
+        reply,
+    }
+}
+
+fn shown(line: &'static str, reply: &'static str) -> Exchange {
+    Exchange {
+        line,
+        body: "",
+        status: "200 OK",
+        media: PLAIN,
+        reply,
+    }
+}
+
+// The bytes of the request.
+fn request(alloc: Global, exchange: &Exchange) -> Result<String, Fail> {
+    let (line, body) = (exchange.line, exchange.body);
+    let length = body.len();
+    Ok(format!(in alloc; "{line} HTTP/1.1\r\nContent-Length: {length}\r\n\r\n{body}")?)
+}
+
+// The bytes of the response.
+fn response(alloc: Global, exchange: &Exchange) -> Result<String, Fail> {
+    let (status, media, reply) = (exchange.status, exchange.media, exchange.reply);
+    let length = reply.len();
+    Ok(format!(in alloc;
+        "HTTP/1.1 {status}\r\nContent-Type: {media}\r\nContent-Length: {length}\r\n\r\n{reply}"
+    )?)
+}
+
+// The reports are those of the worked sequence, byte for byte, and follow a change of its events.
+#[test]
+fn reports_are_written_from_what_is_there(rt: HostRuntime) -> Result<(), Fail> {
+    let alloc = rt.alloc();
+    let made = "201 Created";
+    let rows = [
+        json(
+            "GET /sequences/b1/results",
+            "",
+            "404 Not Found",
+            r#"{"error":"absent","number":4,"value":"b1"}"#,
+        ),
+        json(
+            "GET /sequences/b1/results/2",
+            "",
+            "404 Not Found",
+            r#"{"error":"absent","number":4,"value":"b1"}"#,
+        ),
+        json(
+            "GET /sequences/b1/suitability",
+            "",
+            "404 Not Found",
+            r#"{"error":"absent","number":4,"value":"b1"}"#,
+        ),
+        json(
+            "PUT /traces/one",
+            TRACE,
+            made,
+            r#"{"samples":11,"unchanged":false,"version":1}"#,
+        ),
+        json(
+            "PUT /methods/m/draft",
+            METHOD,
+            made,
+            r#"{"unchanged":false}"#,
+        ),
+        json(
+            "POST /methods/m/versions",
+            r#"{"version":1}"#,
+            made,
+            r#"{"unchanged":false,"version":1}"#,
+        ),
+        json(
+            "PUT /sequences/b1",
+            SEQUENCE,
+            made,
+            r#"{"basis":1,"edition":1,"unchanged":false}"#,
+        ),
+        shown("GET /sequences/b1/results", RESULTS),
+        shown("GET /sequences/b1/results/2", ROW),
+        shown("GET /sequences/b1/suitability", SUITABILITY),
+        json(
+            "GET /sequences/b1/results/4",
+            "",
+            "404 Not Found",
+            r#"{"error":"absent","number":5,"value":4}"#,
+        ),
+        json(
+            "GET /sequences/b1/results/0",
+            "",
+            "404 Not Found",
+            r#"{"error":"route","number":0,"value":""}"#,
+        ),
+        json(
+            "PUT /sequences/b1/rows/1/events",
+            INHIBIT,
+            "200 OK",
+            r#"{"basis":2,"edition":2,"unchanged":false}"#,
+        ),
+        shown("GET /sequences/b1/results", INHIBITED),
+    ];
+    let mut source = String::new(alloc);
+    let mut expected = String::new(alloc);
+    for exchange in &rows {
+        source.push_str(request(alloc, exchange)?.as_str())?;
+        expected.push_str(response(alloc, exchange)?.as_str())?;
+    }
+    let words = words_of(alloc, "session")?;
+    let mut keeper = MapKeeper::new(alloc, &[])?;
+    let mut source = MemSource::new(alloc, source.as_bytes(), 4096, &[])?;
+    let mut sink = MemSink::new(alloc, 4096, &[])?;
+    assert_eq!(rt;
+        over(alloc, &words, &mut source, &mut sink, &mut keeper)?,
+        0
+    );
+    assert_eq!(rt; sink.written(), expected.as_bytes());
+    Ok(())
+}
