@@ -280,6 +280,12 @@ post_reprocess b w h =
     let no = differs 256 b (λ e. h.0.token (sym e)) in
     record { entry = _; is = found_behind (codes "/sequences/") b w (codes "reprocess") route_table _ h (rw no refl) (rw (cuts_one b w) refl) refl; value = refl }
 
+post_signature : (b : ℕ) (w : List ℕ) → ArePlain (b ∷ w) → Found route.PostSignature (codes "/sequences/" ++ (b ∷ w ++ codes "/signatures"))
+unfolding matchit_on_literals
+post_signature b w h =
+    let no = differs 256 b (λ e. h.0.token (sym e)) in
+    record { entry = _; is = found_behind (codes "/sequences/") b w (codes "signatures") route_table _ h (rw no refl) (rw (cuts_one b w) refl) refl; value = refl }
+
 get_results : (b : ℕ) (w : List ℕ) → ArePlain (b ∷ w) → Found route.GetResults (codes "/sequences/" ++ (b ∷ w ++ codes "/results"))
 unfolding matchit_on_literals
 get_results b w h =
@@ -453,6 +459,12 @@ route_found route.PostReprocess (b ∷ w) (d ∷ ds) number named numbered =
     target_is route.PostReprocess (codes "/sequences/" ++ rest) (b ∷ w) 0 (post_reprocess b w h)
     (unmarked_both (codes "/sequences/") rest refl (unmarked_both (b ∷ w) (codes "/reprocess") (plain_unmarked (b ∷ w) h) refl))
     (second_is (codes "sequences") rest sequences_plain ∙ name_cut (b ∷ w) (codes "reprocess") h) named refl
+route_found route.PostSignature (b ∷ w) (d ∷ ds) number named numbered =
+    let h = name_plain (b ∷ w) named in
+    let rest : List ℕ = b ∷ w ++ codes "/signatures" in
+    target_is route.PostSignature (codes "/sequences/" ++ rest) (b ∷ w) 0 (post_signature b w h)
+    (unmarked_both (codes "/sequences/") rest refl (unmarked_both (b ∷ w) (codes "/signatures") (plain_unmarked (b ∷ w) h) refl))
+    (second_is (codes "sequences") rest sequences_plain ∙ name_cut (b ∷ w) (codes "signatures") h) named refl
 route_found route.GetResults (b ∷ w) (d ∷ ds) number named numbered =
     let h = name_plain (b ∷ w) named in
     let rest : List ℕ = b ∷ w ++ codes "/results" in

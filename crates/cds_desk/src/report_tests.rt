@@ -1,6 +1,9 @@
 //! Tests of the reports of sequences, through the top call: each row is a request and its reply, in one session.
 
-use crate::test_devices::{over, words_of};
+ghost use Rattle.std.specs.Prelude.{All};
+ghost use Rattle.cds_base.specs.Clock.{IsMoment};
+
+use crate::test_devices::{at_moments, words_of};
 use cds_base::{MemSink, MemSource};
 use cds_keep::MapKeeper;
 use std::alloc::Global;
@@ -81,6 +84,37 @@ peak 1 caf 5000000 1 8 160000 60 19.47 1.00
 amount caf TooFew
 row 3 R1 replicate one 1
 peak 1 caf 5000000 1 8 160000 60 19.47 1.00
+";
+
+const SIGN: &str = "POST /sequences/b1/signatures";
+
+const FIRST: &str = r#"{"basis":1,"number":1,"name":"A. Chemist","meaning":"reviewed"}"#;
+
+const OTHER: &str = r#"{"basis":1,"number":1,"name":"A. Chemist","meaning":"approved"}"#;
+
+const SECOND: &str = r#"{"basis":2,"number":2,"name":"A. Chemist","meaning":"reviewed"}"#;
+
+const NO_BASIS: &str = r#"{"basis":0,"number":1,"name":"A. Chemist","meaning":"reviewed"}"#;
+
+const SIGNED: &str = "signed 1 b1 basis 1
+by A. Chemist
+meaning reviewed
+at Sun, 06 Nov 1994 08:49:37 GMT
+sequence b1 edition 1 basis 1
+method m 1
+standards b1 m 1
+standard 1 one 1 used
+line caf points 1 slope 10000.000000 intercept 0.000000 r2 TooFew
+row 1 S1 standard one 1
+peak 1 caf 5000000 1 8 160000 60 19.47 1.00
+row 2 X1 sample one 1
+peak 1 caf 5000000 1 8 160000 60 19.47 1.00
+amount caf 16.0000
+row 3 R1 replicate one 1
+peak 1 caf 5000000 1 8 160000 60 19.47 1.00
+suitability b1 basis 1
+check 1 tailing caf row 3 1.00 Pass
+verdict Pass
 ";
 
 // A request, and its reply where it has one.
@@ -209,20 +243,112 @@ fn reports_are_written_from_what_is_there(rt: HostRuntime) -> Result<(), Fail> {
         ),
         shown("GET /sequences/b1/results", INHIBITED),
     ];
-    let mut source = String::new(alloc);
+    let (written, expected) = conversation(alloc, &rows, &[])?;
+    assert_eq!(rt; written.as_slice(), expected.as_bytes());
+    Ok(())
+}
+
+// What is signed is told with the moment of the clock, asked for once; it is kept, and stays as it was.
+#[test]
+fn what_is_signed_stays(rt: HostRuntime) -> Result<(), Fail> {
+    let alloc = rt.alloc();
+    let made = "201 Created";
+    let signed =
+        r#"{"basis":1,"number":1,"signed":"Sun, 06 Nov 1994 08:49:37 GMT","unchanged":false}"#;
+    let kept =
+        r#"{"basis":1,"number":1,"signed":"Sun, 06 Nov 1994 08:49:37 GMT","unchanged":true}"#;
+    let next =
+        r#"{"basis":2,"number":2,"signed":"Thu, 01 Jan 1970 00:00:00 GMT","unchanged":false}"#;
+    let rows = [
+        json(
+            "PUT /traces/one",
+            TRACE,
+            made,
+            r#"{"samples":11,"unchanged":false,"version":1}"#,
+        ),
+        json(
+            "PUT /methods/m/draft",
+            METHOD,
+            made,
+            r#"{"unchanged":false}"#,
+        ),
+        json(
+            "POST /methods/m/versions",
+            r#"{"version":1}"#,
+            made,
+            r#"{"unchanged":false,"version":1}"#,
+        ),
+        json(
+            SIGN,
+            FIRST,
+            "404 Not Found",
+            r#"{"error":"absent","number":4,"value":"b1"}"#,
+        ),
+        json(
+            "PUT /sequences/b1",
+            SEQUENCE,
+            made,
+            r#"{"basis":1,"edition":1,"unchanged":false}"#,
+        ),
+        json(
+            SIGN,
+            NO_BASIS,
+            "400 Bad Request",
+            r#"{"error":"field","number":0,"value":"basis"}"#,
+        ),
+        json(SIGN, FIRST, made, signed),
+        json(SIGN, FIRST, "200 OK", kept),
+        json(
+            SIGN,
+            OTHER,
+            "409 Conflict",
+            r#"{"error":"conflict","number":9,"value":2}"#,
+        ),
+        json(
+            SIGN,
+            SECOND,
+            "409 Conflict",
+            r#"{"error":"conflict","number":8,"value":1}"#,
+        ),
+        json(
+            "PUT /sequences/b1/rows/1/events",
+            INHIBIT,
+            "200 OK",
+            r#"{"basis":2,"edition":2,"unchanged":false}"#,
+        ),
+        json(SIGN, FIRST, "200 OK", kept),
+        json(SIGN, SECOND, made, next),
+        shown("GET /sequences/b1/signatures/1", SIGNED),
+        json(
+            "GET /sequences/b1/signatures/3",
+            "",
+            "404 Not Found",
+            r#"{"error":"absent","number":6,"value":3}"#,
+        ),
+    ];
+    let (written, expected) = conversation(alloc, &rows, &[784_111_777])?;
+    assert_eq!(rt; written.as_slice(), expected.as_bytes());
+    Ok(())
+}
+
+// What a session writes to these requests, and what it is to write; its clock answers these moments, and then 0.
+fn conversation(
+    alloc: Global,
+    rows: &[Exchange],
+    moments: &[u64],
+) -> Result<(Vec<u8>, String), Fail>
+    requires { All IsMoment moments.now }
+{
+    let mut asked = String::new(alloc);
     let mut expected = String::new(alloc);
-    for exchange in &rows {
-        source.push_str(request(alloc, exchange)?.as_str())?;
+    for exchange in rows {
+        asked.push_str(request(alloc, exchange)?.as_str())?;
         expected.push_str(response(alloc, exchange)?.as_str())?;
     }
     let words = words_of(alloc, "session")?;
     let mut keeper = MapKeeper::new(alloc, &[])?;
-    let mut source = MemSource::new(alloc, source.as_bytes(), 4096, &[])?;
+    let mut source = MemSource::new(alloc, asked.as_bytes(), 4096, &[])?;
     let mut sink = MemSink::new(alloc, 4096, &[])?;
-    assert_eq!(rt;
-        over(alloc, &words, &mut source, &mut sink, &mut keeper)?,
-        0
-    );
-    assert_eq!(rt; sink.written(), expected.as_bytes());
-    Ok(())
+    let _ = at_moments(alloc, &words, &mut source, &mut sink, &mut keeper, moments)?;
+    Ok((Vec::from_slice(alloc, sink.written())?, expected))
 }

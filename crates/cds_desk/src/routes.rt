@@ -29,6 +29,8 @@ pub enum Route {
     PutEvents,
     /// A sequence is bound to another version of its method.
     PostReprocess,
+    /// A sequence is signed.
+    PostSignature,
     /// The results of a sequence are read.
     GetResults,
     /// The results of a row of a sequence are read.
@@ -53,6 +55,7 @@ impl Route {
             Route::PutSequence => "/sequences/{name}",
             Route::PutEvents => "/sequences/{name}/rows/{number}/events",
             Route::PostReprocess => "/sequences/{name}/reprocess",
+            Route::PostSignature => "/sequences/{name}/signatures",
             Route::GetResults => "/sequences/{name}/results",
             Route::GetRow => "/sequences/{name}/results/{number}",
             Route::GetSuitability => "/sequences/{name}/suitability",
@@ -73,7 +76,7 @@ impl Route {
             | Route::GetRow
             | Route::GetSuitability
             | Route::GetSignature => Method::GET,
-            Route::PostVersion | Route::PostReprocess => Method::POST,
+            Route::PostVersion | Route::PostReprocess | Route::PostSignature => Method::POST,
         }
     }
 
@@ -89,6 +92,7 @@ impl Route {
             | Route::PostVersion
             | Route::PutSequence
             | Route::PostReprocess
+            | Route::PostSignature
             | Route::GetResults
             | Route::GetSuitability => None,
         }
@@ -96,7 +100,7 @@ impl Route {
 }
 
 /// All routes.
-fn all_routes() -> [Route; 12]
+fn all_routes() -> [Route; 13]
     ensures { result ≡ all_routes }
 {
     [
@@ -108,6 +112,7 @@ fn all_routes() -> [Route; 12]
         Route::PutSequence,
         Route::PutEvents,
         Route::PostReprocess,
+        Route::PostSignature,
         Route::GetResults,
         Route::GetRow,
         Route::GetSuitability,
