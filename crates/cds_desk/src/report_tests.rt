@@ -117,58 +117,21 @@ check 1 tailing caf row 3 1.00 Pass
 verdict Pass
 ";
 
-// A request, and its reply where it has one.
-#[derive(Clone, Copy)]
-struct Exchange {
-    line: &'static str,
-    body: &'static str,
-    status: &'static str,
-    media: &'static str,
-    reply: &'static str,
-}
-
 const JSON: &str = "application/json";
 
 const PLAIN: &str = "text/plain";
 
-fn json(
-    line: &'static str,
-    body: &'static str,
-    status: &'static str,
-    reply: &'static str,
-) -> Exchange {
-    Exchange {
-        line,
-        body,
-        status,
-        media: JSON,
-        reply,
-    }
-}
-
-fn shown(line: &'static str, reply: &'static str) -> Exchange {
-    Exchange {
-        line,
-        body: "",
-        status: "200 OK",
-        media: PLAIN,
-        reply,
-    }
-}
-
-// The bytes of the request.
-fn request(alloc: Global, exchange: &Exchange) -> Result<String, Fail> {
-    let (line, body) = (exchange.line, exchange.body);
+// The bytes of a request with this line and this body.
+fn request(alloc: Global, line: &str, body: &str) -> Result<String, Fail> {
     let length = body.len();
     Ok(format!(in alloc; "{line} HTTP/1.1\r\nContent-Length: {length}\r\n\r\n{body}")?)
 }
 
-// The bytes of the response.
-fn response(alloc: Global, exchange: &Exchange) -> Result<String, Fail> {
-    let (status, media, reply) = (exchange.status, exchange.media, exchange.reply);
-    let length = reply.len();
+// The bytes of a response with this status and this text.
+fn response(alloc: Global, status: &str, media: &str, text: &str) -> Result<String, Fail> {
+    let length = text.len();
     Ok(format!(in alloc;
-        "HTTP/1.1 {status}\r\nContent-Type: {media}\r\nContent-Length: {length}\r\n\r\n{reply}"
+        "HTTP/1.1 {status}\r\nContent-Type: {media}\r\nContent-Length: {length}\r\n\r\n{text}"
     )?)
 }
 
@@ -178,70 +141,86 @@ fn reports_are_written_from_what_is_there(rt: HostRuntime) -> Result<(), Fail> {
     let alloc = rt.alloc();
     let made = "201 Created";
     let rows = [
-        json(
+        (
             "GET /sequences/b1/results",
             "",
             "404 Not Found",
+            JSON,
             r#"{"error":"absent","number":4,"value":"b1"}"#,
         ),
-        json(
+        (
             "GET /sequences/b1/results/2",
             "",
             "404 Not Found",
+            JSON,
             r#"{"error":"absent","number":4,"value":"b1"}"#,
         ),
-        json(
+        (
             "GET /sequences/b1/suitability",
             "",
             "404 Not Found",
+            JSON,
             r#"{"error":"absent","number":4,"value":"b1"}"#,
         ),
-        json(
+        (
             "PUT /traces/one",
             TRACE,
             made,
+            JSON,
             r#"{"samples":11,"unchanged":false,"version":1}"#,
         ),
-        json(
+        (
             "PUT /methods/m/draft",
             METHOD,
             made,
+            JSON,
             r#"{"unchanged":false}"#,
         ),
-        json(
+        (
             "POST /methods/m/versions",
             r#"{"version":1}"#,
             made,
+            JSON,
             r#"{"unchanged":false,"version":1}"#,
         ),
-        json(
+        (
             "PUT /sequences/b1",
             SEQUENCE,
             made,
+            JSON,
             r#"{"basis":1,"edition":1,"unchanged":false}"#,
         ),
-        shown("GET /sequences/b1/results", RESULTS),
-        shown("GET /sequences/b1/results/2", ROW),
-        shown("GET /sequences/b1/suitability", SUITABILITY),
-        json(
+        ("GET /sequences/b1/results", "", "200 OK", PLAIN, RESULTS),
+        ("GET /sequences/b1/results/2", "", "200 OK", PLAIN, ROW),
+        (
+            "GET /sequences/b1/suitability",
+            "",
+            "200 OK",
+            PLAIN,
+            SUITABILITY,
+        ),
+        (
             "GET /sequences/b1/results/4",
             "",
             "404 Not Found",
+            JSON,
             r#"{"error":"absent","number":5,"value":4}"#,
         ),
-        json(
+        (
             "GET /sequences/b1/results/0",
             "",
             "404 Not Found",
+            JSON,
             r#"{"error":"route","number":0,"value":""}"#,
         ),
-        json(
+        (
             "PUT /sequences/b1/rows/1/events",
             INHIBIT,
             "200 OK",
+            JSON,
             r#"{"basis":2,"edition":2,"unchanged":false}"#,
         ),
-        shown("GET /sequences/b1/results", INHIBITED),
+        ("GET /sequences/b1/results", "", "200 OK", PLAIN, INHIBITED),
     ];
     let (written, expected) = conversation(alloc, &rows, &[])?;
     assert_eq!(rt; written.as_slice(), expected.as_bytes());
@@ -260,69 +239,85 @@ fn what_is_signed_stays(rt: HostRuntime) -> Result<(), Fail> {
     let next =
         r#"{"basis":2,"number":2,"signed":"Thu, 01 Jan 1970 00:00:00 GMT","unchanged":false}"#;
     let rows = [
-        json(
+        (
             "PUT /traces/one",
             TRACE,
             made,
+            JSON,
             r#"{"samples":11,"unchanged":false,"version":1}"#,
         ),
-        json(
+        (
             "PUT /methods/m/draft",
             METHOD,
             made,
+            JSON,
             r#"{"unchanged":false}"#,
         ),
-        json(
+        (
             "POST /methods/m/versions",
             r#"{"version":1}"#,
             made,
+            JSON,
             r#"{"unchanged":false,"version":1}"#,
         ),
-        json(
+        (
             SIGN,
             FIRST,
             "404 Not Found",
+            JSON,
             r#"{"error":"absent","number":4,"value":"b1"}"#,
         ),
-        json(
+        (
             "PUT /sequences/b1",
             SEQUENCE,
             made,
+            JSON,
             r#"{"basis":1,"edition":1,"unchanged":false}"#,
         ),
-        json(
+        (
             SIGN,
             NO_BASIS,
             "400 Bad Request",
+            JSON,
             r#"{"error":"field","number":0,"value":"basis"}"#,
         ),
-        json(SIGN, FIRST, made, signed),
-        json(SIGN, FIRST, "200 OK", kept),
-        json(
+        (SIGN, FIRST, made, JSON, signed),
+        (SIGN, FIRST, "200 OK", JSON, kept),
+        (
             SIGN,
             OTHER,
             "409 Conflict",
+            JSON,
             r#"{"error":"conflict","number":9,"value":2}"#,
         ),
-        json(
+        (
             SIGN,
             SECOND,
             "409 Conflict",
+            JSON,
             r#"{"error":"conflict","number":8,"value":1}"#,
         ),
-        json(
+        (
             "PUT /sequences/b1/rows/1/events",
             INHIBIT,
             "200 OK",
+            JSON,
             r#"{"basis":2,"edition":2,"unchanged":false}"#,
         ),
-        json(SIGN, FIRST, "200 OK", kept),
-        json(SIGN, SECOND, made, next),
-        shown("GET /sequences/b1/signatures/1", SIGNED),
-        json(
+        (SIGN, FIRST, "200 OK", JSON, kept),
+        (SIGN, SECOND, made, JSON, next),
+        (
+            "GET /sequences/b1/signatures/1",
+            "",
+            "200 OK",
+            PLAIN,
+            SIGNED,
+        ),
+        (
             "GET /sequences/b1/signatures/3",
             "",
             "404 Not Found",
+            JSON,
             r#"{"error":"absent","number":6,"value":3}"#,
         ),
     ];
@@ -331,19 +326,20 @@ fn what_is_signed_stays(rt: HostRuntime) -> Result<(), Fail> {
     Ok(())
 }
 
-// What a session writes to these requests, and what it is to write; its clock answers these moments, and then 0.
+// What a session writes to these requests, and what it is to write, each as its line, its body, and the status, the
+// media type and the text of the response; its clock answers these moments, and then 0.
 fn conversation(
     alloc: Global,
-    rows: &[Exchange],
+    rows: &[(&str, &str, &str, &str, &str)],
     moments: &[u64],
 ) -> Result<(Vec<u8>, String), Fail>
     requires { All IsMoment moments.now }
 {
     let mut asked = String::new(alloc);
     let mut expected = String::new(alloc);
-    for exchange in rows {
-        asked.push_str(request(alloc, exchange)?.as_str())?;
-        expected.push_str(response(alloc, exchange)?.as_str())?;
+    for (line, body, status, media, text) in rows {
+        asked.push_str(request(alloc, line, body)?.as_str())?;
+        expected.push_str(response(alloc, status, media, text)?.as_str())?;
     }
     let words = words_of(alloc, "session")?;
     let mut keeper = MapKeeper::new(alloc, &[])?;
