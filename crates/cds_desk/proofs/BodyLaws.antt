@@ -18,12 +18,12 @@ use Rattle.cds_wire.specs.Stated.{Bound, body, whole, method_of, standards_of, r
 use Rattle.cds_wire.specs.Stated.{sequence_of, put_events_of, reprocess_of}
 use Rattle.cds_wire.specs.declared.error.BodyError.{BodyError}
 use Rattle.cds_wire.specs.declared.error.BodyError.TheVariants.{Json}
-use Rattle.cds_desk.specs.Commands.{IsRouted}
+use Rattle.cds_desk.specs.Commands.{IsBrief}
 
--- a command that a route makes, and that may be planned where it is in its ranges
+-- a command whose record can be kept, and that may be planned where it is in its ranges
 pub record MayBePlanned (asked : Command) : Type 0 where
   pub ranged : IsAsked asked → IsCommand asked
-  pub routed : IsRouted asked
+  pub brief : IsBrief asked
 
 -- the fields of each body
 abbrev sequence_fields : List (List ℕ)
@@ -52,8 +52,8 @@ unfolding body
 of_body judge each bytes asked is =
     subst Made is (followed (ok_or (json_value bytes) Json) (λ d. whole d >>= judge) (λ d. followed (whole d) judge each))
 
-may_be : (asked : Command) → (IsAsked asked → IsCommand asked) → IsRouted asked → MayBePlanned asked
-may_be asked ranged routed = record { ranged = ranged; routed = routed }
+may_be : (asked : Command) → (IsAsked asked → IsCommand asked) → IsBrief asked → MayBePlanned asked
+may_be asked ranged brief = record { ranged = ranged; brief = brief }
 
 module _ (name : List ℕ) (s : Section BodyError) where
   -- what follows the parts of a sequence, from the last one on

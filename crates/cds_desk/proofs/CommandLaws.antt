@@ -10,11 +10,11 @@ use Rattle.cds_book.specs.Kept.{IsMethod}
 use Rattle.cds_book.specs.Plan.{command_of}
 use Rattle.cds_sign.specs.declared.command.Change.{Change}
 use Rattle.cds_sign.specs.declared.command.Command.{Command}
-use Rattle.cds_desk.specs.Commands.{IsRouted}
+use Rattle.cds_desk.specs.Commands.{IsBrief}
 
--- a change is of a route where what asked for it is
-pub routed : (asked : Command) (c : Change) → command_of c ≡ asked → IsRouted asked → IsRouted (command_of c)
-routed asked c is may = subst IsRouted (sym is) may
+-- the record of a change can be kept where that of what asked for it can
+pub brief : (asked : Command) (c : Change) → command_of c ≡ asked → IsBrief asked → IsBrief (command_of c)
+brief asked c is may = subst IsBrief (sym is) may
 
 -- ---- methods
 

@@ -8,3 +8,4 @@ pub mod SessionLaws
 pub mod StatusLaws
 pub mod RouteLaws
 pub mod BodyLaws
+pub mod SignLaws

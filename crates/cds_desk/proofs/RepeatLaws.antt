@@ -1,5 +1,5 @@
 -- A request that changed the state, repeated at once; and a request that is refused.
-use Rattle.std.proofs.Common.{◌≡◌, ℕ, ◌≤◌, Bool, true, false, List, Option, Some, None, Result, Ok, Err, refl, sym, ap, ◌∙◌, arith}
+use Rattle.std.proofs.Common.{◌≡◌, ℕ, ◌≤◌, Bool, true, false, List, Option, Some, None, Result, Ok, Err, refl, sym, ap, ◌∙◌, arith, subst}
 use Rattle.std.specs.Prelude.{IsTrue, is_some, bytes_eq}
 use Rattle.cds_rules.specs.Fields.{Fields}
 use Rattle.cds_rules.specs.Stated.{stated}
@@ -7,11 +7,16 @@ use Rattle.cds_rules.specs.declared.error.MethodError.{MethodError}
 use Rattle.cds_trace.specs.Signal.{Signal}
 use Rattle.cds_trace.specs.TraceText.{csv_trace}
 use Rattle.cds_trace.specs.declared.error.TraceError.{TraceError}
-use Rattle.cds_book.specs.Plan.{planned, applied, command_of}
+use Rattle.cds_base.specs.Answers.{◌>>=◌}
+use Rattle.cds_book.proofs.AgainLaws.{kept-again}
+use Rattle.cds_book.specs.Judged.{sign_judged}
+use Rattle.cds_book.specs.Plan.{planned, applied, command_of, signature_planned, sign_planned}
+use Rattle.cds_book.specs.declared.command.SignPlan.TheVariants as sign
 use Rattle.cds_book.specs.Tables.{TablesState, draft_of, sequence_of, signed_of}
 use Rattle.cds_sign.specs.declared.sequence.Sequence.{Sequence}
 use Rattle.cds_sign.specs.declared.signed.Signed.{Signed}
 use Rattle.cds_sign.specs.declared.command.Change.{Change}
+use Rattle.cds_sign.specs.declared.command.Change.TheVariants as change
 use Rattle.cds_sign.specs.declared.command.Command.{Command}
 use Rattle.cds_sign.specs.declared.command.Command.TheVariants as command
 use Rattle.cds_book.specs.declared.command.Plan.{Plan}
@@ -19,15 +24,18 @@ use Rattle.cds_book.specs.declared.command.Plan.TheVariants as plan
 use Rattle.cds_book.specs.declared.error.PlanError.{PlanError}
 use Rattle.cds_http.specs.Items.{Message}
 use Rattle.cds_wire.specs.Stated.{body as stated_in, freeze_of}
-use Rattle.cds_wire.specs.Stated.{sequence_of as stated_sequence, put_events_of, reprocess_of}
+use Rattle.cds_wire.specs.Stated.{sequence_of as stated_sequence, put_events_of, reprocess_of, sign_of}
+use Rattle.cds_wire.specs.declared.sign.SignBody.{SignBody}
 use Rattle.cds_wire.specs.declared.error.BodyError.{BodyError}
 use Rattle.cds_desk.specs.State.{State, after_change}
 use Rattle.cds_desk.specs.Routes.{target_of, method_of as method_on}
 use Rattle.cds_desk.specs.Judged.{reply_of, change_of}
 use Rattle.cds_desk.specs.Commands.{answer_of, sequence_answer, signature_answer, draft_status, sequence_status, made_status, decided, commanded}
-use Rattle.cds_desk.specs.Step.{judged, judged_on, judged_method, judged_route, trace_put, draft_put, draft_frozen, asked_in}
+use Rattle.cds_desk.specs.Step.{judged, at_moment, wanted_on, wanted_method, wanted_route, trace_put, draft_put}
+use Rattle.cds_desk.specs.Step.{draft_frozen, asked_in, signature_wanted, signature_at, signed_at}
 use Rattle.cds_desk.specs.Repeat.{IsUnchanged, says_unchanged}
 use Rattle.cds_desk.specs.declared.judged.Judged.{Judged}
+use Rattle.cds_desk.specs.declared.judged.Wanted.{Wanted}
 use Rattle.cds_desk.specs.declared.target.Target.{Target}
 use Rattle.cds_desk.specs.declared.routes.Route.{Route}
 use Rattle.cds_desk.specs.declared.routes.Route.TheVariants as route
@@ -53,6 +61,33 @@ says_so (command.Sign sequence number basis moment name meaning text) state = sa
 -- what is judged where something changed, once more, is unchanged
 abbrev Again : (State → Judged) → State → Type 0
 Again judging state = IsTrue (is_some (change_of (judging state))) → IsUnchanged (judging (after_change state (change_of (judging state))))
+
+-- and so at whatever moments
+abbrev AgainAt : (State → Wanted) → State → Type 0
+AgainAt wanting state = (moment again : ℕ) → IsTrue (is_some (change_of (at_moment state moment (wanting state))))
+    → let after = after_change state (change_of (at_moment state moment (wanting state))) in
+    IsUnchanged (at_moment after again (wanting after))
+
+-- a change that is asked for as a signature is one
+sign_is : (c : Change) (sequence : List ℕ) (number basis moment : ℕ) (name meaning text : List ℕ) →
+    command_of c ≡ command.Sign sequence number basis moment name meaning text →
+    c ≡ change.Sign sequence number basis moment name meaning text
+sign_is (change.Trace n signal) sequence number basis moment name meaning text is = absurd (cc)
+sign_is (change.Draft n t) sequence number basis moment name meaning text is = absurd (cc)
+sign_is (change.Freeze n version) sequence number basis moment name meaning text is = absurd (cc)
+sign_is (change.Sequence n edition method version standards rows) sequence number basis moment name meaning text is =
+    absurd (cc)
+sign_is (change.Events n edition row events) sequence number basis moment name meaning text is = absurd (cc)
+sign_is (change.Rebind n edition version) sequence number basis moment name meaning text is = absurd (cc)
+sign_is (change.Sign s n b m by means t) sequence number basis moment name meaning text is = cc
+
+-- a signature that is kept changes nothing, whatever its moment and its text
+kept_unchanged : (t : TablesState) (sequence : List ℕ) (number basis moment : ℕ) (name meaning text : List ℕ) →
+    sign_judged t sequence basis number name meaning ≡ Ok (sign.Kept number) →
+    planned t (command.Sign sequence number basis moment name meaning text) ≡ Ok plan.Unchanged
+unfolding planned signature_planned
+kept_unchanged t sequence number basis moment name meaning text kept =
+    ap (λ r. r >>= sign_planned t (change.Sign sequence number basis moment name meaning text)) kept
 
 -- a change that is planned is what was asked for, and a change that was carried out, asked for again, changes nothing
 module _ (asked_for : (tables : TablesState) (asked : Command) (c : Change) → planned tables asked ≡ Ok (plan.Change c) → command_of c ≡ asked)
@@ -91,31 +126,69 @@ module _ (asked_for : (tables : TablesState) (asked : Command) (c : Change) → 
   asked_again state (Err e) some = absurd (cc)
   asked_again state (Ok asked) some = command_again state asked some
 
-  target_again : (state : State) (r : Route) (name : List ℕ) (number : ℕ) (body : List ℕ) → Again (λ s. judged_on s r name number body) state
-  unfolding judged_on
-  target_again state route.PutTrace name number body some = trace_again state name (csv_trace body) some
-  target_again state route.PutDraft name number body some = draft_again state name body (stated body) some
-  target_again state route.PostVersion name number body some = freeze_again state name (stated_in freeze_of body) some
-  target_again state route.PutSequence name number body some = asked_again state (stated_in (stated_sequence name) body) some
-  target_again state route.PutEvents name row body some = asked_again state (stated_in (put_events_of name row) body) some
-  target_again state route.PostReprocess name number body some = asked_again state (stated_in (reprocess_of name) body) some
-  target_again state route.GetTrace name version body some = absurd (cc)
-  target_again state route.GetMethod name version body some = absurd (cc)
-  target_again state route.GetSignature name number body some = absurd (cc)
+  -- a signature that was made is kept at any later moment
+  signed_again : (state : State) (sequence : List ℕ) (asked : SignBody) (moment again : ℕ) (p : Result Plan PlanError) →
+      planned state.tables (signature_at state sequence asked moment) ≡ p →
+      IsTrue (is_some (change_of (decided state (signature_at state sequence asked moment) p))) →
+      let after = after_change state (change_of (decided state (signature_at state sequence asked moment) p)) in
+      IsUnchanged (commanded after (signature_at after sequence asked again))
+  signed_again state sequence asked moment again (Ok plan.Unchanged) is some = absurd (cc)
+  signed_again state sequence asked moment again (Err e) is some = absurd (cc)
+  signed_again state sequence asked moment again (Ok (plan.Change c)) is some =
+      let text = signed_at state sequence asked moment in
+      let after = after_change state (Some c) in
+      let same = sign_is c sequence asked.number asked.basis moment asked.name asked.meaning text
+      (asked_for state.tables (signature_at state sequence asked moment) c is) in
+      let made = is ∙ ap (λ (d : Change). Ok (plan.Change d)) same in
+      let kept = subst (λ (d : Change). sign_judged (applied state.tables d) sequence asked.basis asked.number asked.name
+      asked.meaning ≡ Ok (sign.Kept asked.number)) (sym same)
+      (kept-again state.tables sequence asked.number asked.basis moment asked.name asked.meaning text made) in
+      unchanged after (signature_at after sequence asked again)
+      (kept_unchanged after.tables sequence asked.number asked.basis again asked.name asked.meaning
+      (signed_at after sequence asked again) kept)
 
-  method_again : (state : State) (t : Target) (method body : List ℕ) (same : Bool) → bytes_eq method (method_on t.route) ≡ same
-      → Again (λ s. judged_method s t method body) state
-  method_again state t method body true is some = rw is (target_again state t.route t.name t.number body (rw is at some))
-  method_again state t method body false is some = absurd (let no = rw is at some in cc)
+  signature_again : (state : State) (name : List ℕ) (r : Result SignBody BodyError) →
+      AgainAt (λ s. signature_wanted name r) state
+  signature_again state name (Err e) moment again some = absurd (cc)
+  signature_again state name (Ok asked) moment again some =
+      signed_again state name asked moment again (planned state.tables (signature_at state name asked moment)) refl some
+
+  target_again : (state : State) (r : Route) (name : List ℕ) (number : ℕ) (body : List ℕ) →
+      AgainAt (λ s. wanted_on s r name number body) state
+  unfolding wanted_on
+  target_again state route.PutTrace name number body _ _ some = trace_again state name (csv_trace body) some
+  target_again state route.PutDraft name number body _ _ some = draft_again state name body (stated body) some
+  target_again state route.PostVersion name number body _ _ some =
+      freeze_again state name (stated_in freeze_of body) some
+  target_again state route.PutSequence name number body _ _ some =
+      asked_again state (stated_in (stated_sequence name) body) some
+  target_again state route.PutEvents name row body _ _ some = asked_again state (stated_in (put_events_of name row) body) some
+  target_again state route.PostReprocess name number body _ _ some =
+      asked_again state (stated_in (reprocess_of name) body) some
+  target_again state route.PostSignature name number body moment again some =
+      signature_again state name (stated_in sign_of body) moment again some
+  target_again state route.GetTrace name version body _ _ some = absurd (cc)
+  target_again state route.GetMethod name version body _ _ some = absurd (cc)
+  target_again state route.GetResults name number body _ _ some = absurd (cc)
+  target_again state route.GetRow name n body _ _ some = absurd (cc)
+  target_again state route.GetSuitability name number body _ _ some = absurd (cc)
+  target_again state route.GetSignature name number body _ _ some = absurd (cc)
+
+  method_again : (state : State) (t : Target) (method body : List ℕ) (same : Bool) →
+      bytes_eq method (method_on t.route) ≡ same → AgainAt (λ s. wanted_method s t method body) state
+  method_again state t method body true is moment again some =
+      rw is (target_again state t.route t.name t.number body moment again (rw is at some))
+  method_again state t method body false is moment again some = absurd (let no = rw is at some in cc)
 
   -- the request is judged as unchanged
   pub repeated : (state : State) (m : Message) (moment again : ℕ) → IsTrue (is_some (change_of (judged state m moment)))
       → IsUnchanged (judged (after_change state (change_of (judged state m moment))) m again)
-  repeated state m moment again = on (target_of m.target)
+  repeated state m moment again = on (target_of m.target) moment again
     where
-      on : (t : Option Target) → Again (λ s. judged_route s t m.method m.body) state
-      on None some = absurd (cc)
-      on (Some t) some = method_again state t m.method m.body (bytes_eq m.method (method_on t.route)) refl some
+      on : (t : Option Target) → AgainAt (λ s. wanted_route s t m.method m.body) state
+      on None _ _ some = absurd (cc)
+      on (Some t) first second some =
+          method_again state t m.method m.body (bytes_eq m.method (method_on t.route)) refl first second some
 
 -- ---- refusals
 
@@ -164,26 +237,38 @@ asked_unmade : (state : State) (r : Result Command BodyError) → Unmade (asked_
 asked_unmade state (Ok asked) = command_unmade state asked
 asked_unmade state (Err e) = λ is. refl
 
-target_unmade : (state : State) (r : Route) (name : List ℕ) (number : ℕ) (body : List ℕ) → Unmade (judged_on state r name number body)
-unfolding judged_on
-target_unmade state route.PutTrace name number body = trace_unmade state name (csv_trace body)
-target_unmade state route.PutDraft name number body = draft_unmade state name body (stated body)
-target_unmade state route.PostVersion name number body = freeze_unmade state name (stated_in freeze_of body)
-target_unmade state route.GetTrace name version body = λ is. refl
-target_unmade state route.GetMethod name version body = λ is. refl
-target_unmade state route.PutSequence name number body = asked_unmade state (stated_in (stated_sequence name) body)
-target_unmade state route.PutEvents name row body = asked_unmade state (stated_in (put_events_of name row) body)
-target_unmade state route.PostReprocess name number body = asked_unmade state (stated_in (reprocess_of name) body)
-target_unmade state route.GetSignature name number body = λ is. refl
+signature_unmade : (state : State) (moment : ℕ) (name : List ℕ) (r : Result SignBody BodyError) →
+    Unmade (at_moment state moment (signature_wanted name r))
+signature_unmade state moment name (Ok asked) = command_unmade state (signature_at state name asked moment)
+signature_unmade state moment name (Err e) = λ is. refl
 
-method_unmade : (state : State) (t : Target) (method body : List ℕ) (same : Bool) → bytes_eq method (method_on t.route) ≡ same → Unmade (judged_method state t method body)
-method_unmade state t method body true is = rw is (target_unmade state t.route t.name t.number body)
-method_unmade state t method body false is = rw is (λ high. refl)
+target_unmade : (state : State) (moment : ℕ) (r : Route) (name : List ℕ) (number : ℕ) (body : List ℕ) →
+    Unmade (at_moment state moment (wanted_on state r name number body))
+unfolding wanted_on
+target_unmade state moment route.PutTrace name number body = trace_unmade state name (csv_trace body)
+target_unmade state moment route.PutDraft name number body = draft_unmade state name body (stated body)
+target_unmade state moment route.PostVersion name number body = freeze_unmade state name (stated_in freeze_of body)
+target_unmade state moment route.GetTrace name version body = λ is. refl
+target_unmade state moment route.GetMethod name version body = λ is. refl
+target_unmade state moment route.PutSequence name number body = asked_unmade state (stated_in (stated_sequence name) body)
+target_unmade state moment route.PutEvents name row body = asked_unmade state (stated_in (put_events_of name row) body)
+target_unmade state moment route.PostReprocess name number body = asked_unmade state (stated_in (reprocess_of name) body)
+target_unmade state moment route.PostSignature name number body =
+    signature_unmade state moment name (stated_in sign_of body)
+target_unmade state moment route.GetResults name number body = λ is. refl
+target_unmade state moment route.GetRow name n body = λ is. refl
+target_unmade state moment route.GetSuitability name number body = λ is. refl
+target_unmade state moment route.GetSignature name number body = λ is. refl
+
+method_unmade : (state : State) (moment : ℕ) (t : Target) (method body : List ℕ) (same : Bool) →
+    bytes_eq method (method_on t.route) ≡ same → Unmade (at_moment state moment (wanted_method state t method body))
+method_unmade state moment t method body true is = rw is (target_unmade state moment t.route t.name t.number body)
+method_unmade state moment t method body false is = rw is (λ high. refl)
 
 -- a refused request makes no change
 pub unmade : (state : State) (m : Message) (moment : ℕ) → 400 ≤ (reply_of (judged state m moment)).status → change_of (judged state m moment) ≡ None
 unmade state m moment = on (target_of m.target)
   where
-    on : (t : Option Target) → Unmade (judged_route state t m.method m.body)
+    on : (t : Option Target) → Unmade (at_moment state moment (wanted_route state t m.method m.body))
     on None = λ is. refl
-    on (Some t) = method_unmade state t m.method m.body (bytes_eq m.method (method_on t.route)) refl
+    on (Some t) = method_unmade state moment t m.method m.body (bytes_eq m.method (method_on t.route)) refl

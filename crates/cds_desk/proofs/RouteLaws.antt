@@ -280,6 +280,34 @@ post_reprocess b w h =
     let no = differs 256 b (λ e. h.0.token (sym e)) in
     record { entry = _; is = found_behind (codes "/sequences/") b w (codes "reprocess") route_table _ h (rw no refl) (rw (cuts_one b w) refl) refl; value = refl }
 
+post_signature : (b : ℕ) (w : List ℕ) → ArePlain (b ∷ w) → Found route.PostSignature (codes "/sequences/" ++ (b ∷ w ++ codes "/signatures"))
+unfolding matchit_on_literals
+post_signature b w h =
+    let no = differs 256 b (λ e. h.0.token (sym e)) in
+    record { entry = _; is = found_behind (codes "/sequences/") b w (codes "signatures") route_table _ h (rw no refl) (rw (cuts_one b w) refl) refl; value = refl }
+
+get_results : (b : ℕ) (w : List ℕ) → ArePlain (b ∷ w) → Found route.GetResults (codes "/sequences/" ++ (b ∷ w ++ codes "/results"))
+unfolding matchit_on_literals
+get_results b w h =
+    let no = differs 256 b (λ e. h.0.token (sym e)) in
+    record { entry = _; is = found_behind (codes "/sequences/") b w (codes "results") route_table _ h (rw no refl) (rw (cuts_one b w) refl) refl; value = refl }
+
+get_row : (b : ℕ) (w : List ℕ) (d : ℕ) (ds : List ℕ) → ArePlain (b ∷ w) → ArePlain (d ∷ ds)
+    → Found route.GetRow (codes "/sequences/" ++ (b ∷ w ++ (codes "/results/" ++ (d ∷ ds))))
+unfolding matchit_on_literals
+get_row b w d ds h g =
+    let no = differs 256 b (λ e. h.0.token (sym e)) in
+    let none = differs 256 d (λ e. g.0.token (sym e)) in
+    let rows = with_suffix (47 ∷ []) (step param_token (behind (codes "/sequences/") route_table)) in
+    let last = found_last (codes "/results/") d ds rows _ g (rw none refl) refl refl in
+    record { entry = _; is = found_behind (codes "/sequences/") b w (codes "results/" ++ (d ∷ ds)) route_table _ h (rw no refl) (rw (cuts_one b w) refl) last; value = refl }
+
+get_suitability : (b : ℕ) (w : List ℕ) → ArePlain (b ∷ w) → Found route.GetSuitability (codes "/sequences/" ++ (b ∷ w ++ codes "/suitability"))
+unfolding matchit_on_literals
+get_suitability b w h =
+    let no = differs 256 b (λ e. h.0.token (sym e)) in
+    record { entry = _; is = found_behind (codes "/sequences/") b w (codes "suitability") route_table _ h (rw no refl) (rw (cuts_one b w) refl) refl; value = refl }
+
 get_signature : (b : ℕ) (w : List ℕ) (d : ℕ) (ds : List ℕ) → ArePlain (b ∷ w) → ArePlain (d ∷ ds)
     → Found route.GetSignature (codes "/sequences/" ++ (b ∷ w ++ (codes "/signatures/" ++ (d ∷ ds))))
 unfolding matchit_on_literals
@@ -357,6 +385,9 @@ sequences_plain = are_plain is_name_byte refl refl refl (codes "sequences") refl
 rows_plain : ArePlain (codes "rows")
 rows_plain = are_plain is_name_byte refl refl refl (codes "rows") refl
 
+results_plain : ArePlain (codes "results")
+results_plain = are_plain is_name_byte refl refl refl (codes "results") refl
+
 signatures_plain : ArePlain (codes "signatures")
 signatures_plain = are_plain is_name_byte refl refl refl (codes "signatures") refl
 
@@ -428,6 +459,37 @@ route_found route.PostReprocess (b ∷ w) (d ∷ ds) number named numbered =
     target_is route.PostReprocess (codes "/sequences/" ++ rest) (b ∷ w) 0 (post_reprocess b w h)
     (unmarked_both (codes "/sequences/") rest refl (unmarked_both (b ∷ w) (codes "/reprocess") (plain_unmarked (b ∷ w) h) refl))
     (second_is (codes "sequences") rest sequences_plain ∙ name_cut (b ∷ w) (codes "reprocess") h) named refl
+route_found route.PostSignature (b ∷ w) (d ∷ ds) number named numbered =
+    let h = name_plain (b ∷ w) named in
+    let rest : List ℕ = b ∷ w ++ codes "/signatures" in
+    target_is route.PostSignature (codes "/sequences/" ++ rest) (b ∷ w) 0 (post_signature b w h)
+    (unmarked_both (codes "/sequences/") rest refl (unmarked_both (b ∷ w) (codes "/signatures") (plain_unmarked (b ∷ w) h) refl))
+    (second_is (codes "sequences") rest sequences_plain ∙ name_cut (b ∷ w) (codes "signatures") h) named refl
+route_found route.GetResults (b ∷ w) (d ∷ ds) number named numbered =
+    let h = name_plain (b ∷ w) named in
+    let rest : List ℕ = b ∷ w ++ codes "/results" in
+    target_is route.GetResults (codes "/sequences/" ++ rest) (b ∷ w) 0 (get_results b w h)
+    (unmarked_both (codes "/sequences/") rest refl (unmarked_both (b ∷ w) (codes "/results") (plain_unmarked (b ∷ w) h) refl))
+    (second_is (codes "sequences") rest sequences_plain ∙ name_cut (b ∷ w) (codes "results") h) named refl
+route_found route.GetRow (b ∷ w) (d ∷ ds) number named numbered =
+    let h = name_plain (b ∷ w) named in
+    let g = digits_plain (d ∷ ds) number numbered in
+    let rest : List ℕ = b ∷ w ++ (codes "/results/" ++ (d ∷ ds)) in
+    target_is route.GetRow (codes "/sequences/" ++ rest) (b ∷ w) number (get_row b w d ds h g)
+    (unmarked_both (codes "/sequences/") rest refl (unmarked_both (b ∷ w) (codes "/results/" ++ (d ∷ ds)) (plain_unmarked (b ∷ w) h) (plain_unmarked (d ∷ ds) g)))
+    (second_is (codes "sequences") rest sequences_plain ∙ name_cut (b ∷ w) (codes "results/" ++ (d ∷ ds)) h) named
+    (ap path_number (
+    fourth_is (codes "sequences") rest sequences_plain
+    ∙ ap (λ (x : List ℕ). before_first is_slash (after_first is_slash x)) (after_plain (b ∷ w) (codes "results/" ++ (d ∷ ds)) h)
+    ∙ ap (before_first is_slash) (after_plain (codes "results") (d ∷ ds) results_plain)
+    ∙ before_all (d ∷ ds) g
+    ) ∙ numbered)
+route_found route.GetSuitability (b ∷ w) (d ∷ ds) number named numbered =
+    let h = name_plain (b ∷ w) named in
+    let rest : List ℕ = b ∷ w ++ codes "/suitability" in
+    target_is route.GetSuitability (codes "/sequences/" ++ rest) (b ∷ w) 0 (get_suitability b w h)
+    (unmarked_both (codes "/sequences/") rest refl (unmarked_both (b ∷ w) (codes "/suitability") (plain_unmarked (b ∷ w) h) refl))
+    (second_is (codes "sequences") rest sequences_plain ∙ name_cut (b ∷ w) (codes "suitability") h) named refl
 route_found route.GetSignature (b ∷ w) (d ∷ ds) number named numbered =
     let h = name_plain (b ∷ w) named in
     let g = digits_plain (d ∷ ds) number numbered in

@@ -13,7 +13,9 @@ use Rattle.cds_http.specs.declared.next.Request.{Request}
 use Rattle.cds_keep.specs.Found.{Found}
 use Rattle.cds_keep.specs.Told.{KeeperTold}
 use Rattle.cds_respond.specs.Sending.{HoldsPart}
+use Rattle.cds_base.specs.Clock.{Moments, moments_after}
 use Rattle.cds_desk.specs.State.{State}
+use Rattle.cds_desk.specs.Signing.{ClockTold}
 use Rattle.cds_desk.specs.Service.{Outcome, ServesItem, Serves, followed_by, writes}
 use Rattle.cds_desk.specs.Serving.{Lasting, World, Reading, reading, Changed, FindsOn, Read, ReadOn, ItemServed, ItemBroken, Served, is_refused, is_closed, IsDone, IsRefused, IsSourceFailed, IsSinkFailed, EndsAs, AreServed, InAll}
 use Rattle.cds_desk.specs.declared.serving.Ended.{Ended}
@@ -60,7 +62,13 @@ changed_nothing l text = record {
   failures = omega arith;
   untouched = λ _. refl;
   steps = omega arith;
+  clock = refl;
 }
+
+-- the clock was asked for some moments, and then for others
+told_then : (x y : List ℕ) (a b c : Option Moments) → ClockTold x a b → ClockTold y b c → ClockTold (x ++ y) a c
+told_then [] y a b c same later = subst (λ (o : Option Moments). ClockTold y o c) same later
+told_then (moment ∷ x) y a b c one later = (one.0, told_then x y (option_map moments_after a) b c one.1 later)
 
 changed_then : (a b c : Lasting) (first second : Outcome) → Changed a b first → Changed b c second → Changed a c (followed_by first second)
 changed_then a b c first second x y = record {
@@ -70,6 +78,7 @@ changed_then a b c first second x y = record {
   failures = omega (arith, x.failures, y.failures);
   untouched = λ none. y.untouched (omega (arith, none)) ∙ x.untouched (omega (arith, none));
   steps = omega (arith, x.steps, y.steps);
+  clock = told_then first.moments second.moments a.clock b.clock c.clock x.clock y.clock;
 }
 
 -- what a load finds keeps step over two stretches, one after the other

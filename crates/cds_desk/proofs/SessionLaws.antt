@@ -1,6 +1,7 @@
 -- How a session ends.
 use Rattle.std.proofs.Common.{◌≡◌, ◌<◌, ℕ, true, List, [], ◌∷◌, length, Result, Err, arith, Option, Some, None, Ok, refl, sym, ap, ◌∙◌, subst}
 use Rattle.std.specs.Prelude.{◌≢◌, IfSome, is_some}
+use Rattle.cds_base.specs.Clock.{Moments}
 use Rattle.cds_desk.specs.State.{State}
 use Rattle.cds_keep.specs.Found.{Found, FindsContent, records, damaged}
 use Rattle.cds_keep.specs.Told.{KeeperTold}
@@ -55,14 +56,14 @@ opened_so found before keeper list state steps h holds is_open faults calls open
 
 -- the source was served from the store that was opened
 pub served_until : (ended : Ended) (found found_now : Option Found) (before keeper keeper_now : KeeperTold) (list : List (List ℕ)) (state after : State)
-    (written written_now : Option (List ℕ)) (from to : Reading) (steps steps_now : ℕ)
+    (written written_now : Option (List ℕ)) (from to : Reading) (steps steps_now : ℕ) (clock clock_now : Option Moments)
     → IfSome found (λ f. (f ≡ records list) × (keeper.content ≡ Some list)) → IfSome keeper.content (λ kept. kept ≡ list)
     → keeper.is_open ≡ true → keeper.faults ≡ before.faults → keeper.calls ≡ one_more before.calls
     → Gives NoMemory (λ (t : State). t) (opened list) (Ok state)
-    → EndsAs ended (world written state keeper steps) (world written_now after keeper_now steps_now) from to
-    → ServedUntil ended (session_told from written found before steps) (session_told to written_now found_now keeper_now steps_now)
+    → EndsAs ended (world written state keeper steps clock) (world written_now after keeper_now steps_now clock_now) from to
+    → ServedUntil ended (session_told from written found before steps clock) (session_told to written_now found_now keeper_now steps_now clock_now)
 unfolding opened_so
-served_until ended found found_now before keeper keeper_now list state after written written_now from to steps steps_now h holds is_open faults calls opens way =
+served_until ended found found_now before keeper keeper_now list state after written written_now from to steps steps_now clock clock_now h holds is_open faults calls opens way =
     (opened_so found before keeper list state steps h holds is_open faults calls opens, after, way)
 
 -- a load finds the records that it found

@@ -1,6 +1,7 @@
 -- A step answers neither 503 nor 507.
 use Rattle.std.proofs.Common.{◌≡◌, ◌<◌, ℕ, Bool, true, false, List, Option, Some, None, Result, Ok, Err, refl, arith}
 use Rattle.std.specs.Prelude.{◌≢◌, bytes_eq, is_some, option_map}
+use Rattle.std.specs.Option.{option_and_then}
 use Rattle.cds_rules.specs.Fields.{Fields}
 use Rattle.cds_rules.specs.Stated.{stated}
 use Rattle.cds_rules.specs.declared.error.MethodError.{MethodError}
@@ -20,16 +21,22 @@ use Rattle.cds_book.specs.declared.error.PlanError.{PlanError}
 use Rattle.cds_book.specs.declared.error.PlanError.TheVariants as refused
 use Rattle.cds_http.specs.Items.{Message}
 use Rattle.cds_wire.specs.Stated.{body as stated_in, freeze_of}
-use Rattle.cds_wire.specs.Stated.{sequence_of as stated_sequence, put_events_of, reprocess_of}
+use Rattle.cds_wire.specs.Stated.{sequence_of as stated_sequence, put_events_of, reprocess_of, sign_of}
+use Rattle.cds_wire.specs.declared.sign.SignBody.{SignBody}
 use Rattle.cds_wire.specs.declared.error.BodyError.{BodyError}
+use Rattle.cds_report.specs.Reported.{reported_of}
+use Rattle.cds_report.specs.RowText.{row_text}
+use Rattle.cds_report.specs.SequenceText.{sequence_text}
+use Rattle.cds_report.specs.SuitabilityText.{suitability_text}
 use Rattle.cds_respond.specs.declared.reply.Content.{Content}
 use Rattle.cds_respond.specs.declared.reply.Content.TheVariants as content
 use Rattle.cds_desk.specs.State.{State}
 use Rattle.cds_desk.specs.Routes.{target_of, method_of as method_on}
 use Rattle.cds_desk.specs.Judged.{reply_of}
-use Rattle.cds_desk.specs.Refusals.{refused_field, body_reply, absent_signature, missing_method, missing_sequence, told_as}
+use Rattle.cds_desk.specs.Refusals.{refused_field, body_reply, absent_sequence, absent_row, absent_signature, missing_method, missing_sequence, told_as}
 use Rattle.cds_desk.specs.Commands.{draft_status, sequence_status, made_status, decided, commanded}
-use Rattle.cds_desk.specs.Step.{step, judged_on, judged_method, judged_route, trace_put, draft_put, draft_frozen, asked_in, signature_shown, version_shown}
+use Rattle.cds_desk.specs.Step.{step, at_moment, wanted_on, wanted_method, wanted_route, signature_wanted, signature_at, trace_put, draft_put, draft_frozen, asked_in, text_shown, signature_shown, version_shown}
+use Rattle.cds_respond.specs.declared.reply.Reply.{Reply}
 use Rattle.cds_desk.specs.declared.judged.Judged.{Judged}
 use Rattle.cds_desk.specs.declared.target.Target.{Target}
 use Rattle.cds_desk.specs.declared.routes.Route.{Route}
@@ -135,29 +142,54 @@ signature-plain : (name : List ℕ) (number : ℕ) (sequence : Option Sequence) 
 signature-plain name number sequence (Some signed) = omega arith
 signature-plain name number sequence None = absent-plain name number (is_some sequence)
 
-target-plain : (state : State) (r : Route) (name : List ℕ) (number : ℕ) (body : List ℕ) → IsPlain (judged_on state r name number body)
-unfolding judged_on
-target-plain state route.PutTrace name number body = trace-plain state name (csv_trace body)
-target-plain state route.GetTrace name version body = shown-plain 1 name version (trace_versions_of state.tables name) content.Csv (option_map csv_text (trace_of state.tables name version))
-target-plain state route.PutDraft name number body = draft-plain state name body (stated body)
-target-plain state route.PostVersion name number body = freeze-plain state name (stated_in freeze_of body)
-target-plain state route.GetMethod name version body = shown-plain 2 name version (method_versions_of state.tables name) content.Toml (method_of state.tables name version)
-target-plain state route.PutSequence name number body = asked-plain state (stated_in (stated_sequence name) body)
-target-plain state route.PutEvents name row body = asked-plain state (stated_in (put_events_of name row) body)
-target-plain state route.PostReprocess name number body = asked-plain state (stated_in (reprocess_of name) body)
-target-plain state route.GetSignature name number body =
+row-absent : (name : List ℕ) (n : ℕ) (has_sequence : Bool) → Plain (absent_row name n has_sequence).status
+row-absent name n true = omega arith
+row-absent name n false = omega arith
+
+text-plain : (absent : Reply) (text : Option (List ℕ)) → Plain absent.status → Plain (text_shown absent text).status
+text-plain absent (Some text) is = omega arith
+text-plain absent None is = is
+
+signature-plain-at : (state : State) (moment : ℕ) (name : List ℕ) (r : Result SignBody BodyError) →
+    IsPlain (at_moment state moment (signature_wanted name r))
+signature-plain-at state moment name (Ok asked) = command-plain state (signature_at state name asked moment)
+signature-plain-at state moment name (Err error) = body-plain (refused_field error)
+
+target-plain : (state : State) (moment : ℕ) (r : Route) (name : List ℕ) (number : ℕ) (body : List ℕ) → IsPlain (at_moment state moment (wanted_on state r name number body))
+unfolding wanted_on
+target-plain state moment route.PutTrace name number body = trace-plain state name (csv_trace body)
+target-plain state moment route.GetTrace name version body = shown-plain 1 name version (trace_versions_of state.tables name) content.Csv (option_map csv_text (trace_of state.tables name version))
+target-plain state moment route.PutDraft name number body = draft-plain state name body (stated body)
+target-plain state moment route.PostVersion name number body = freeze-plain state name (stated_in freeze_of body)
+target-plain state moment route.GetMethod name version body = shown-plain 2 name version (method_versions_of state.tables name) content.Toml (method_of state.tables name version)
+target-plain state moment route.PutSequence name number body = asked-plain state (stated_in (stated_sequence name) body)
+target-plain state moment route.PutEvents name row body = asked-plain state (stated_in (put_events_of name row) body)
+target-plain state moment route.PostReprocess name number body = asked-plain state (stated_in (reprocess_of name) body)
+target-plain state moment route.PostSignature name number body = signature-plain-at state moment name (stated_in sign_of body)
+target-plain state moment route.GetResults name number body =
+    text-plain (absent_sequence name) (option_map sequence_text (reported_of state.tables name)) (omega arith)
+target-plain state moment route.GetRow name n body =
+    let there = is_some (sequence_of state.tables name) in
+    text-plain (absent_row name n there) (option_and_then (row_text n) (reported_of state.tables name))
+    (row-absent name n there)
+target-plain state moment route.GetSuitability name number body =
+    text-plain (absent_sequence name) (option_map suitability_text (reported_of state.tables name)) (omega arith)
+target-plain state moment route.GetSignature name number body =
     signature-plain name number (sequence_of state.tables name) (signed_of state.tables name number)
 
-method-plain : (state : State) (t : Target) (method body : List ℕ) (same : Bool) → bytes_eq method (method_on t.route) ≡ same → IsPlain (judged_method state t method body)
-method-plain state t method body true is = rw is (target-plain state t.route t.name t.number body)
-method-plain state t method body false is = rw is omega arith
+method-plain : (state : State) (moment : ℕ) (t : Target) (method body : List ℕ) (same : Bool) →
+    bytes_eq method (method_on t.route) ≡ same → IsPlain (at_moment state moment (wanted_method state t method body))
+method-plain state moment t method body true is = rw is (target-plain state moment t.route t.name t.number body)
+method-plain state moment t method body false is = rw is omega arith
 
-judged-plain : (state : State) (t : Option Target) (method body : List ℕ) → IsPlain (judged_route state t method body)
-judged-plain state None method body = omega arith
-judged-plain state (Some t) method body = method-plain state t method body (bytes_eq method (method_on t.route)) refl
+judged-plain : (state : State) (moment : ℕ) (t : Option Target) (method body : List ℕ) →
+    IsPlain (at_moment state moment (wanted_route state t method body))
+judged-plain state moment None method body = omega arith
+judged-plain state moment (Some t) method body =
+    method-plain state moment t method body (bytes_eq method (method_on t.route)) refl
 
 -- a step answers neither
 pub step_status : (state : State) (m : Message) (moment : ℕ) → ((step state m moment).reply.status ≢ 503) × ((step state m moment).reply.status ≢ 507)
 step_status state m moment =
-    let low = judged-plain state (target_of m.target) m.method m.body in
+    let low = judged-plain state moment (target_of m.target) m.method m.body in
     (λ e. omega (arith, e, low), λ e. omega (arith, e, low))

@@ -1,5 +1,6 @@
 -- What a command comes to: nothing, a change, or a refusal; and what is replied to each.
-use Rattle.std.specs.Prelude.{ℕ, ⊤, Bool, true, false, List, [], length, Option, Some, None, Result, Ok, Err, unwrap_or}
+use Rattle.std.specs.Prelude.{ℕ, ◌<◌, ⊤, Bool, true, false, List, [], length, Option, Some, None, Result, Ok, Err}
+use Rattle.std.specs.Prelude.{unwrap_or}
 use Rattle.cds_book.specs.Tables.{trace_versions_of, draft_of, method_versions_of, sequence_of, signed_of}
 use Rattle.cds_book.specs.Plan.{planned, command_of, Accepts}
 use Rattle.cds_sign.specs.Ranges.{IsChange}
@@ -18,24 +19,25 @@ use Rattle.cds_sign.specs.declared.signed.Signed.{Signed}
 use Rattle.cds_report.specs.Dates.{date_of}
 use Rattle.cds_desk.specs.State.{State, with_change}
 use Rattle.cds_desk.specs.Refusals.{plan_reply}
+use Rattle.cds_desk.specs.declared.signing.TheConstants.{SIGNED_LIMIT}
 use Rattle.cds_desk.specs.declared.judged.Judged.{Judged}
 use Rattle.cds_desk.specs.declared.judged.Judged.TheVariants as judging
 
--- a command that a route makes: signatures have no route yet
-abbrev pub IsRouted : Command → Type 0
-IsRouted (command.Trace name signal) = ⊤
-IsRouted (command.Draft name text) = ⊤
-IsRouted (command.Freeze name version) = ⊤
-IsRouted (command.Sequence name edition method version standards rows) = ⊤
-IsRouted (command.Events name edition row events) = ⊤
-IsRouted (command.Rebind name edition version) = ⊤
-IsRouted (command.Sign sequence number basis moment name meaning text) = ⊥
+-- a command whose record can be kept: the text of a signature is below its limit
+abbrev pub IsBrief : Command → Type 0
+IsBrief (command.Trace name signal) = ⊤
+IsBrief (command.Draft name text) = ⊤
+IsBrief (command.Freeze name version) = ⊤
+IsBrief (command.Sequence name edition method version standards rows) = ⊤
+IsBrief (command.Events name edition row events) = ⊤
+IsBrief (command.Rebind name edition version) = ⊤
+IsBrief (command.Sign sequence number basis moment name meaning text) = length text < SIGNED_LIMIT
 
--- a change that is planned in this state, whose parts are in their ranges, and that a route asks for
+-- a change that is planned in this state, whose parts are in their ranges, and whose record can be kept
 pub record IsPlanned (state : State) (change : Change) : Type 0 where
   pub accepts : Accepts state.tables change
   pub content : IsChange change
-  pub routed : IsRouted (command_of change)
+  pub brief : IsBrief (command_of change)
 
 -- what is answered of a sequence: its basis and its edition; there is none where the command named none
 abbrev pub sequence_answer : Bool → Option Sequence → Answer

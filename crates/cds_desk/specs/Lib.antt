@@ -14,3 +14,4 @@ pub mod Turn
 pub mod Session
 pub mod Run
 pub mod Repeat
+pub mod Signing

@@ -61,10 +61,19 @@ abbrev pub absent_version : ℕ → List ℕ → ℕ → Option ℕ → Reply
 absent_version number name version (Some count) = absent_reply 3 (Number version)
 absent_version number name version None = absent_reply number (Word name)
 
+-- a sequence isn't there
+abbrev pub absent_sequence : List ℕ → Reply
+absent_sequence name = absent_reply 4 (Word name)
+
+-- A row isn't there: its number is shown where the sequence is there, and else the name of the sequence.
+abbrev pub absent_row : List ℕ → ℕ → Bool → Reply
+absent_row name n true = absent_reply 5 (Number n)
+absent_row name n false = absent_sequence name
+
 -- A signature isn't there: its number is shown where the sequence is there, and else the name of the sequence.
 abbrev pub absent_signature : List ℕ → ℕ → Bool → Reply
 absent_signature name number true = absent_reply 6 (Number number)
-absent_signature name number false = absent_reply 4 (Word name)
+absent_signature name number false = absent_sequence name
 
 -- ---- what the tables refuse
 

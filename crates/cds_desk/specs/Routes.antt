@@ -27,6 +27,10 @@ pattern_of route.GetMethod = codes "/methods/{name}/versions/{version}"
 pattern_of route.PutSequence = codes "/sequences/{name}"
 pattern_of route.PutEvents = codes "/sequences/{name}/rows/{number}/events"
 pattern_of route.PostReprocess = codes "/sequences/{name}/reprocess"
+pattern_of route.PostSignature = codes "/sequences/{name}/signatures"
+pattern_of route.GetResults = codes "/sequences/{name}/results"
+pattern_of route.GetRow = codes "/sequences/{name}/results/{number}"
+pattern_of route.GetSuitability = codes "/sequences/{name}/suitability"
 pattern_of route.GetSignature = codes "/sequences/{name}/signatures/{number}"
 
 -- the one method of a route
@@ -39,6 +43,10 @@ method_of route.GetMethod = codes "GET"
 method_of route.PutSequence = codes "PUT"
 method_of route.PutEvents = codes "PUT"
 method_of route.PostReprocess = codes "POST"
+method_of route.PostSignature = codes "POST"
+method_of route.GetResults = codes "GET"
+method_of route.GetRow = codes "GET"
+method_of route.GetSuitability = codes "GET"
 method_of route.GetSignature = codes "GET"
 
 -- the place of the number among the segments of its paths, if they have one; the name stands at place 2
@@ -51,13 +59,18 @@ number_at route.GetMethod = Some 4
 number_at route.PutSequence = None
 number_at route.PutEvents = Some 4
 number_at route.PostReprocess = None
+number_at route.PostSignature = None
+number_at route.GetResults = None
+number_at route.GetRow = Some 4
+number_at route.GetSuitability = None
 number_at route.GetSignature = Some 4
 
 -- all routes
 abbrev pub all_routes : List Route
 all_routes =
     route.PutTrace ∷ route.GetTrace ∷ route.PutDraft ∷ route.PostVersion ∷ route.GetMethod ∷ route.PutSequence
-    ∷ route.PutEvents ∷ route.PostReprocess ∷ route.GetSignature ∷ []
+    ∷ route.PutEvents ∷ route.PostReprocess ∷ route.PostSignature ∷ route.GetResults ∷ route.GetRow
+    ∷ route.GetSuitability ∷ route.GetSignature ∷ []
 
 -- the rows of `matchit` with one more, for a route whose pattern was read
 abbrev pub with_scan : Result Scan InsertError → Route → RowsOf (RouteOf Route) → RowsOf (RouteOf Route)
@@ -134,6 +147,10 @@ path_with route.PutSequence name digits = codes "/sequences/" ++ name
 path_with route.PutEvents name digits =
     codes "/sequences/" ++ (name ++ (codes "/rows/" ++ (digits ++ codes "/events")))
 path_with route.PostReprocess name digits = codes "/sequences/" ++ (name ++ codes "/reprocess")
+path_with route.PostSignature name digits = codes "/sequences/" ++ (name ++ codes "/signatures")
+path_with route.GetResults name digits = codes "/sequences/" ++ (name ++ codes "/results")
+path_with route.GetRow name digits = codes "/sequences/" ++ (name ++ (codes "/results/" ++ digits))
+path_with route.GetSuitability name digits = codes "/sequences/" ++ (name ++ codes "/suitability")
 path_with route.GetSignature name digits = codes "/sequences/" ++ (name ++ (codes "/signatures/" ++ digits))
 
 -- the number in the paths of a route that are written with this one: 0 where they have none

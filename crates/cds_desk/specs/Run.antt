@@ -8,6 +8,7 @@ use Rattle.cds_base.specs.Told.{then_more}
 use Rattle.cds_keep.specs.Found.{Found, FindsContent, FindsOneMoreAtMost}
 use Rattle.cds_keep.specs.Told.{KeeperTold}
 use Rattle.cds_respond.specs.Sending.{HoldsPart, Sent}
+use Rattle.cds_base.specs.Clock.{Moments}
 use Rattle.cds_desk.specs.PeaksAnswer.{peaks_answer}
 use Rattle.cds_desk.specs.Serving.{reading}
 use Rattle.cds_desk.specs.Session.{SessionTold, session_told, SessionServed, damage_of, damaged_line}
@@ -68,7 +69,7 @@ pub record PeaksRan {S W : Type 0} (options : PeaksOptions) (ended : Status) (be
 -- ---- `session`
 
 -- the devices of a command at one time, with what they tell, and the steps
-pub record Devices (S W K : Type 0) : Type 0 where
+pub record Devices (S W K C : Type 0) : Type 0 where
   pub streams : Streams S W
   pub keeper : K
   pub keeper_told : KeeperTold
@@ -76,20 +77,31 @@ pub record Devices (S W K : Type 0) : Type 0 where
   pub finds : List ℕ → Option Found
   -- how many steps were counted
   pub steps : ℕ
+  pub clock : C
+  pub clock_told : Option Moments
 
 -- the devices as they are at one time
-abbrev pub devices : {S W K : Type 0} → Streams S W → K → KeeperTold → (List ℕ → Option Found) → ℕ → Devices S W K
-devices s keeper keeper_told finds steps =
-    record { streams = s; keeper = keeper; keeper_told = keeper_told; finds = finds; steps = steps }
+abbrev pub devices : {S W K C : Type 0} → Streams S W → K → KeeperTold → (List ℕ → Option Found) → ℕ → C
+    → Option Moments → Devices S W K C
+devices s keeper keeper_told finds steps clock clock_told = record {
+  streams = s;
+  keeper = keeper;
+  keeper_told = keeper_told;
+  finds = finds;
+  steps = steps;
+  clock = clock;
+  clock_told = clock_told;
+}
 
 -- what the devices tell of a session over a store
-abbrev pub told_of : {S W K : Type 0} → List ℕ → Devices S W K → SessionTold
+abbrev pub told_of : {S W K C : Type 0} → List ℕ → Devices S W K C → SessionTold
 told_of store d =
     session_told (reading d.streams.source_told.given d.streams.source_told.left) d.streams.sink_told.written
-    (d.finds store) d.keeper_told d.steps
+    (d.finds store) d.keeper_told d.steps d.clock_told
 
 -- a session over a store was served
-pub record SessionGone {S W K : Type 0} (store : List ℕ) (ended : Status) (before now : Devices S W K) : Type 0 where
+pub record SessionGone {S W K C : Type 0} (store : List ℕ) (ended : Status)
+    (before now : Devices S W K C) : Type 0 where
   pub served : SessionServed ended (told_of store before) (told_of store now)
   pub stays_open : now.keeper_told.is_open ≡ true
   -- what the next load finds, under any name
@@ -98,12 +110,13 @@ pub record SessionGone {S W K : Type 0} (store : List ℕ) (ended : Status) (bef
       → (name : List ℕ) → FindsContent (now.finds name) now.keeper_told.content
 
 -- a session over a store ended before anything was served
-pub record SessionUnserved {S W K : Type 0} (store : List ℕ) (ended : Status)
-    (before now : Devices S W K) : Type 0 where
+pub record SessionUnserved {S W K C : Type 0} (store : List ℕ) (ended : Status)
+    (before now : Devices S W K C) : Type 0 where
   pub stores_nothing : now.finds store ≡ before.finds store
   pub loads_once : now.keeper_told.calls ≡ one_more before.keeper_told.calls
   pub reads_nothing : now.streams.source ≡ before.streams.source
   pub takes_no_step : now.steps ≡ before.steps
+  pub asks_no_clock : now.clock ≡ before.clock
   pub count_stays : ended ≢ KeeperFailed → now.keeper_told.faults ≡ before.keeper_told.faults
   pub keeper_failed : ended ≡ KeeperFailed → Rose before.keeper_told.faults now.keeper_told.faults
       × (now.streams.sink ≡ before.streams.sink) × (now.keeper_told.is_open ≡ false)
@@ -112,7 +125,7 @@ pub record SessionUnserved {S W K : Type 0} (store : List ℕ) (ended : Status)
       before.streams.sink_told.faults now.streams.sink_told.faults (damaged_line number)
 
 -- what a session over a store leaves
-pub record SessionRan {S W K : Type 0} (store : List ℕ) (ended : Status) (before now : Devices S W K) : Type 0 where
+pub record SessionRan {S W K C : Type 0} (store : List ℕ) (ended : Status) (before now : Devices S W K C) : Type 0 where
   pub is_command : ended ≢ NoCommand
   pub served : is_served ended ≡ true → SessionGone store ended before now
   pub unserved : ends_unserved ended ≡ true → SessionUnserved store ended before now
@@ -134,10 +147,11 @@ pub record UsageTold {S W : Type 0} (ended : Status) (before now : Streams S W) 
   pub sent : Sent before.sink_told.written now.sink_told.written before.sink_told.faults now.sink_told.faults usage_line
   pub reads_nothing : now.source ≡ before.source
 
--- what the command that the words state leaves; only a session takes the keeper
-abbrev pub Ran : {S W K : Type 0} → Option TopCommand → Status → Devices S W K → Devices S W K → Type 0
+-- what the command that the words state leaves; only a session takes the keeper and the clock
+abbrev pub Ran : {S W K C : Type 0} → Option TopCommand → Status → Devices S W K C → Devices S W K C → Type 0
 Ran (Some (peaks options)) ended before now =
-    PeaksRan options ended before.streams now.streams × (now.keeper ≡ before.keeper)
+    PeaksRan options ended before.streams now.streams × (now.keeper ≡ before.keeper) × (now.clock ≡ before.clock)
 Ran (Some (session store)) ended before now = SessionRan store ended before now
 Ran None ended before now =
     UsageTold ended before.streams now.streams × (now.keeper ≡ before.keeper) × (now.steps ≡ before.steps)
+    × (now.clock ≡ before.clock)

@@ -1,7 +1,7 @@
 -- How a connection is served: the items of what its client sends, one after the other, each with what is written for
 -- it, what it changes, and what is kept of it.
-use Rattle.std.specs.Prelude.{◌≡◌, ℕ, ◌+◌, ◌≤◌, List, [], ◌∷◌, ◌++◌, codes, bytes_eq, Option, Some, None, is_some}
-use Rattle.std.specs.Prelude.{IsTrue}
+use Rattle.std.specs.Prelude.{◌≡◌, ◌⊎◌, ℕ, ◌+◌, ◌≤◌, List, [], ◌∷◌, ◌++◌, codes, bytes_eq, Option, Some, None}
+use Rattle.std.specs.Prelude.{is_some, IsTrue}
 use Rattle.cds_desk.specs.State.{State, cost_of}
 use Rattle.cds_sign.specs.declared.command.Change.{Change}
 use Rattle.cds_http.specs.Items.{Message, Item, continue, request, fault}
@@ -10,7 +10,8 @@ use Rattle.cds_respond.specs.Replies.{memory_reply, keeper_reply}
 use Rattle.cds_respond.specs.Response.{response_text, continue_text}
 use Rattle.cds_respond.specs.declared.reply.Reply.{Reply}
 use Rattle.cds_desk.specs.Judged.{change_of}
-use Rattle.cds_desk.specs.Step.{step, judged, records_of}
+use Rattle.cds_desk.specs.Step.{step, wanted, judged, records_of}
+use Rattle.cds_desk.specs.Signing.{moments_for}
 
 -- ---- responses
 
@@ -91,16 +92,22 @@ turn state m (keeper_failed used) = unserved state m keeper_reply 1 1 used
 abbrev pub HasChange : State → Message → ℕ → Type 0
 HasChange state m moment = IsTrue (is_some (change_of (judged state m moment)))
 
--- What a turn may use of a request at this moment: no request asks the clock yet, and the steps are at most those that
--- its change costs, and none where it has no change.
+-- What a turn may use of a request that is judged at this moment: the clock is asked for it once where a signature
+-- would be made, and else not at all; and the steps are at most those that its change costs, and none where it has no
+-- change.
 pub record MayUse (state : State) (m : Message) (moment : ℕ) (used : Used) : Type 0 where
-  pub moments : used.moments ≡ []
+  pub moments : used.moments ≡ moments_for state (wanted state m) moment
+  pub steps : used.cost ≤ cost_of state (change_of (judged state m moment))
+
+-- what a turn may use where memory was wanting: the same, or it was wanting before the clock was asked
+pub record MayStop (state : State) (m : Message) (moment : ℕ) (used : Used) : Type 0 where
+  pub moments : (used.moments ≡ []) ⊎ (used.moments ≡ moments_for state (wanted state m) moment)
   pub steps : used.cost ≤ cost_of state (change_of (judged state m moment))
 
 -- a record is put only for a request that has a change, and each turn uses no more than it may, whichever way it went
 abbrev pub MayGo : State → Message → Way → Type 0
 MayGo state m (served moment used) = MayUse state m moment used
-MayGo state m (no_memory used) = (moment : ℕ) × MayUse state m moment used
+MayGo state m (no_memory used) = (moment : ℕ) × MayStop state m moment used
 MayGo state m (not_kept used) = (moment : ℕ) × HasChange state m moment × MayUse state m moment used
 MayGo state m (keeper_failed used) = (moment : ℕ) × HasChange state m moment × MayUse state m moment used
 

@@ -3,7 +3,9 @@ use Rattle.std.specs.Prelude.{◌≡◌, ◌⊎◌, ℕ, ◌<◌, ◌+◌, ◌�
 use Rattle.std.specs.Prelude.{option_map, IfSome}
 use Rattle.cds_base.specs.Faults.{most_faults}
 use Rattle.cds_base.specs.Told.{then_more, more_before}
+use Rattle.cds_base.specs.Clock.{Moments}
 use Rattle.cds_desk.specs.State.{State}
+use Rattle.cds_desk.specs.Signing.{ClockTold}
 use Rattle.cds_http.specs.Items.{Item, continue, request, fault, HasItems}
 use Rattle.cds_http.specs.Stream.{Stream, fed as fed_with}
 use Rattle.cds_keep.specs.Found.{Found, FindsContent, FindsOneMoreAtMost}
@@ -20,6 +22,8 @@ pub record Lasting : Type 0 where
   pub keeper : KeeperTold
   -- how many steps were counted
   pub steps : ℕ
+  -- what the clock tells
+  pub clock : Option Moments
 
 -- what is told at one time of the sink, and what outlives the connection
 pub record World : Type 0 where
@@ -27,12 +31,12 @@ pub record World : Type 0 where
   pub written : Option (List ℕ)
   pub lasting : Lasting
 
--- what outlives a connection: the state, what the keeper tells, and the steps
-abbrev pub lasting : State → KeeperTold → ℕ → Lasting
-lasting state keeper steps = record { state = state; keeper = keeper; steps = steps }
+-- what outlives a connection: the state, what the keeper tells, the steps, and what the clock tells
+abbrev pub lasting : State → KeeperTold → ℕ → Option Moments → Lasting
+lasting state keeper steps clock = record { state = state; keeper = keeper; steps = steps; clock = clock }
 
-abbrev pub world : Option (List ℕ) → State → KeeperTold → ℕ → World
-world written state keeper steps = record { written = written; lasting = lasting state keeper steps }
+abbrev pub world : Option (List ℕ) → State → KeeperTold → ℕ → Option Moments → World
+world written state keeper steps clock = record { written = written; lasting = lasting state keeper steps clock }
 
 -- what is told at one time of the source
 pub record Reading : Type 0 where
@@ -44,7 +48,7 @@ reading given left = record { given = given; left = left }
 
 -- The records of the outcome stand behind those that the keeper held, and the state is the outcome's. Each put was
 -- counted, and no other call; each failure was counted, and where there was none, that count is as before. Each step
--- was counted.
+-- was counted, and the clock was asked for the outcome's moments, and no others.
 pub record Changed (before now : Lasting) (outcome : Outcome) : Type 0 where
   pub content : now.keeper.content ≡ option_map (λ list. list ++ outcome.records) before.keeper.content
   pub state : now.state ≡ outcome.state
@@ -52,6 +56,7 @@ pub record Changed (before now : Lasting) (outcome : Outcome) : Type 0 where
   pub failures : min (before.keeper.faults + outcome.failures) most_faults ≤ now.keeper.faults
   pub untouched : outcome.failures ≡ 0 → now.keeper.faults ≡ before.keeper.faults
   pub steps : now.steps ≡ before.steps + outcome.cost
+  pub clock : ClockTold outcome.moments before.clock now.clock
 
 -- What a load would find keeps step with what the keeper tells: if it was these records, or with one more behind them,
 -- it still is. If it was exactly these records, it still is where no put failed since, which the count of faults shows

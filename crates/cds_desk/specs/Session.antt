@@ -1,6 +1,7 @@
 -- The command `session`: the store is loaded, and the source is served as one connection.
 use Rattle.std.specs.Prelude.{◌≡◌, ℕ, true, List, [], codes, ◌++◌, decimal, Option, Some, None, Result, Ok, Err, IfSome}
 use Rattle.cds_base.specs.Failing.{one_more}
+use Rattle.cds_base.specs.Clock.{Moments}
 use Rattle.cds_desk.specs.State.{State}
 use Rattle.cds_keep.specs.Found.{Found, records, damaged}
 use Rattle.cds_keep.specs.Told.{KeeperTold}
@@ -59,17 +60,25 @@ pub record SessionTold : Type 0 where
   pub keeper : KeeperTold
   -- how many steps were counted
   pub steps : ℕ
+  -- what the clock tells
+  pub clock : Option Moments
 
-abbrev pub session_told : Reading → Option (List ℕ) → Option Found → KeeperTold → ℕ → SessionTold
-session_told source written found keeper steps =
-    record { source = source; written = written; found = found; keeper = keeper; steps = steps }
+abbrev pub session_told : Reading → Option (List ℕ) → Option Found → KeeperTold → ℕ → Option Moments → SessionTold
+session_told source written found keeper steps clock = record {
+  source = source;
+  written = written;
+  found = found;
+  keeper = keeper;
+  steps = steps;
+  clock = clock;
+}
 
 -- the store was opened, and from its state the source was served until that ended so
 abbrev pub ServedUntil : Ended → SessionTold → SessionTold → Type 0
 ServedUntil ended before now =
     (o : Opened before.found before.keeper before.steps) × (after : State)
-    × EndsAs ended (world before.written o.state o.keeper o.steps) (world now.written after now.keeper now.steps)
-    before.source now.source
+    × EndsAs ended (world before.written o.state o.keeper o.steps before.clock)
+    (world now.written after now.keeper now.steps now.clock) before.source now.source
 
 -- the status of a session whose serving ended so
 abbrev pub status_of : Ended → Status

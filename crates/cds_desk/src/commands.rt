@@ -1,36 +1,40 @@
 //! What a command comes to: nothing, a change, or a refusal; and what is replied to each.
 
-ghost use Rattle.std.specs.Prelude.{◌≡◌, ◌+◌, ℕ, List, true, false, IfOk, IfSome, Some, unwrap_or};
+ghost use Rattle.std.specs.Prelude.{◌≡◌, ◌+◌, ◌<◌, ℕ, List, true, false, IfOk, IfSome, Some, unwrap_or};
 ghost use Rattle.cds_trace.specs.Signal.{Signal};
 ghost use Rattle.cds_book.specs.Plan.{command_of, applied, sequence_changed, Accepts, IsCommand};
+ghost use Rattle.cds_base.specs.declared.clock.TheConstants.{MOMENT_LIMIT};
 ghost use Rattle.cds_book.specs.Tables.{TablesState, trace_versions_of, draft_of, method_versions_of, sequence_of};
+ghost use Rattle.cds_book.specs.Tables.{signed_of};
+ghost use Rattle.cds_report.specs.Dates.{date_of};
 ghost use Rattle.cds_wire.specs.declared.answer.Answer.TheVariants as answer;
 ghost use Rattle.cds_sign.specs.declared.command.Change.TheVariants as change;
 ghost use Rattle.cds_desk.specs.State.{with_change};
 ghost use Rattle.cds_desk.specs.Judged.{change_of};
-ghost use Rattle.cds_desk.specs.Commands.{IsPlanned, IsRouted, answer_of, draft_status, sequence_status};
-ghost use Rattle.cds_desk.specs.Commands.{made_status, sequence_answer, unchanged_reply};
+ghost use Rattle.cds_desk.specs.Commands.{IsPlanned, IsBrief, answer_of, draft_status, sequence_status};
+ghost use Rattle.cds_desk.specs.Commands.{made_status, sequence_answer, signature_answer, unchanged_reply};
 ghost use Rattle.cds_desk.specs.Commands.{changed_reply, commanded};
 
 use crate::judged::Judged;
 use crate::refusals::plan_reply;
 use crate::state::State;
-use cds_base::{Name, NoMemory};
+use cds_base::{Name, NoMemory, Text};
 use cds_book::{
     Change, Command, Plan, PlanError, a_change_is_what_was_asked, a_freeze_makes_the_version_named,
     a_trace_is_the_next_version,
 };
+use cds_report::date_text;
 use cds_respond::{Reply, answered};
 use cds_wire::Answer;
 use http::StatusCode;
 use std::alloc::Global;
 
-#[tactic(auto, using(crate::proofs::CommandLaws::routed))]
+#[tactic(auto, using(crate::proofs::CommandLaws::brief))]
 /// What a command comes to in this state: a reply alone where it changes nothing or is refused, and else a reply with
 /// the change. Nothing is changed.
 pub(crate) fn decide(alloc: Global, state: &State, command: &Command) -> Result<Judged, NoMemory>
     requires command { IsCommand command.now }
-    requires routed { IsRouted command.now }
+    requires brief { IsBrief command.now }
     ensures value { IfOk result (λ j. j ≡ commanded state.now.held command.now) }
     ensures accepted { IfOk result (λ j. IfSome (change_of j) (IsPlanned state.now.held)) }
 {
@@ -48,33 +52,62 @@ pub(crate) fn decide(alloc: Global, state: &State, command: &Command) -> Result<
 
 /// The reply to a command that changes nothing in this state.
 fn unchanged_reply(alloc: Global, state: &State, command: &Command) -> Result<Reply, NoMemory>
-    requires { IsRouted command.now }
     ensures { IfOk result (λ r. r ≡ unchanged_reply state.now.held command.now) }
 {
-    answered(alloc, StatusCode::OK, &unchanged_answer(state, command))
+    let answer = unchanged_answer(alloc, state, command)?;
+    answered(alloc, StatusCode::OK, &answer)
 }
 
 /// What is answered to a command that changes nothing in this state: the latest version is as it is asked for.
-fn unchanged_answer(state: &State, command: &Command) -> Answer
-    requires { IsRouted command.now }
-    ensures { result ≡ answer_of command.now true state.now.held }
+fn unchanged_answer(alloc: Global, state: &State, command: &Command) -> Result<Answer, NoMemory>
+    ensures { IfOk result (λ a. a ≡ answer_of command.now true state.now.held) }
 {
     match command {
-        Command::Trace { name, trace } => Answer::Trace {
+        Command::Trace { name, trace } => Ok(Answer::Trace {
             samples: trace.len(),
             unchanged: true,
             version: state.tables().trace_versions(*name).unwrap_or(0),
-        },
-        Command::Draft { .. } => Answer::Draft { unchanged: true },
-        Command::Freeze { name, .. } => Answer::Freeze {
+        }),
+        Command::Draft { .. } => Ok(Answer::Draft { unchanged: true }),
+        Command::Freeze { name, .. } => Ok(Answer::Freeze {
             unchanged: true,
             version: state.tables().method_versions(*name).unwrap_or(0),
-        },
+        }),
         Command::Sequence { name, .. }
         | Command::Events { name, .. }
-        | Command::Rebind { name, .. } => kept_answer(state, *name),
-        Command::Sign { .. } => unreachable!(),
+        | Command::Rebind { name, .. } => Ok(kept_answer(state, *name)),
+        Command::Sign {
+            sequence,
+            number,
+            ..
+        } => signed_answer(alloc, state, *sequence, *number),
     }
+}
+
+/// What is answered of a signature that is kept: its basis, its number and its date.
+fn signed_answer(
+    alloc: Global,
+    state: &State,
+    sequence: Name,
+    number: u32,
+) -> Result<Answer, NoMemory>
+    ensures { IfOk result (λ a. a ≡ signature_answer true (signed_of state.now.held.tables sequence number)) }
+{
+    state.tables().rules();
+    let Some(signed) = state.tables().signed(sequence, number) else {
+        return Ok(Answer::Sign {
+            basis: 0,
+            number: 0,
+            signed: Text::from_string(String::new(alloc)),
+            unchanged: true,
+        });
+    };
+    Ok(Answer::Sign {
+        basis: signed.basis,
+        number: signed.number,
+        signed: date_text(alloc, signed.moment)?,
+        unchanged: true,
+    })
 }
 
 /// What is answered of a sequence to which nothing changes.
@@ -97,17 +130,15 @@ fn kept_answer(state: &State, name: Name) -> Answer
 
 /// The reply to a command that was accepted as this change of the state.
 fn changed_reply(alloc: Global, state: &State, change: &Change) -> Result<Reply, NoMemory>
-    requires accepted { Accepts state.now.held.tables change.now }
-    requires routed { IsRouted (command_of change.now) }
+    requires { Accepts state.now.held.tables change.now }
     ensures { IfOk result (λ r. r ≡ changed_reply state.now.held change.now) }
 {
-    let answer = changed_answer(state, change)?;
+    let answer = changed_answer(alloc, state, change)?;
     answered(alloc, made_status(state, change), &answer)
 }
 
 /// The status of a change: a version, a first draft and a new sequence are made, and what was there is only changed.
 fn made_status(state: &State, change: &Change) -> StatusCode
-    requires { IsRouted (command_of change.now) }
     ensures { result ≡ made_status state.now.held (command_of change.now) }
 {
     match change {
@@ -139,9 +170,9 @@ fn draft_status(state: &State, name: Name) -> StatusCode
 }
 
 /// What is answered to a command that was accepted as this change: its numbers are those of the state after it.
-fn changed_answer(state: &State, change: &Change) -> Result<Answer, NoMemory>
-    requires accepted { Accepts state.now.held.tables change.now }
-    requires routed { IsRouted (command_of change.now) }
+#[tactic(auto, using(crate::proofs::SignLaws::sign_moment, crate::proofs::SignLaws::sign_answer))]
+fn changed_answer(alloc: Global, state: &State, change: &Change) -> Result<Answer, NoMemory>
+    requires { Accepts state.now.held.tables change.now }
     ensures { IfOk result (λ a. a ≡ answer_of (command_of change.now) false (with_change state.now.held change.now)) }
 {
     match change {
@@ -155,8 +186,26 @@ fn changed_answer(state: &State, change: &Change) -> Result<Answer, NoMemory>
         Change::Sequence { name, .. } => made_answer(state, change, *name),
         Change::Events { name, .. } => made_answer(state, change, *name),
         Change::Rebind { name, .. } => made_answer(state, change, *name),
-        Change::Sign { .. } => unreachable!(),
+        Change::Sign {
+            number,
+            basis,
+            moment,
+            ..
+        } => new_answer(alloc, *basis, *number, *moment),
     }
+}
+
+/// What is answered of a signature that is made: its basis, its number and its date.
+fn new_answer(alloc: Global, basis: u64, number: u32, moment: u64) -> Result<Answer, NoMemory>
+    requires { moment < MOMENT_LIMIT }
+    ensures { IfOk result (λ a. a ≡ answer.Sign basis number (date_of moment) false) }
+{
+    Ok(Answer::Sign {
+        basis,
+        number,
+        signed: date_text(alloc, moment)?,
+        unchanged: false,
+    })
 }
 
 /// What is answered to a freeze that makes this version.

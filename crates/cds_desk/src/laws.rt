@@ -1,10 +1,11 @@
 //! Laws of the machine. Each is proved by its contract; its body does nothing but call the laws that it rests on.
 
-ghost use Rattle.std.specs.Prelude.{◌≡◌, ◌≢◌, ◌≤◌, ◌^◌, ℕ, List, Some, None, IsTrue, is_some};
+ghost use Rattle.std.specs.Prelude.{◌≡◌, ◌≢◌, ◌≤◌, ◌^◌, ℕ, List, Some, None, IsTrue, is_some, option_map};
 ghost use Rattle.cds_http.specs.Items.{Message, Item};
 ghost use Rattle.cds_desk.specs.Serving.{World, AreServed, InAll};
 ghost use Rattle.cds_desk.specs.declared.answer.TheConstants.{TOO_MANY_BYTES};
 ghost use Rattle.cds_desk.specs.declared.target.TheConstants.{MOST_PATH_NUMBER};
+ghost use Rattle.cds_desk.specs.declared.signing.TheConstants.{SIGNED_LIMIT};
 ghost use Rattle.cds_desk.specs.Statuses.{exit_number};
 ghost use Rattle.cds_desk.specs.declared.status.Status.TheVariants.{Done, Refused, NoCommand, SourceFailed, SinkFailed};
 ghost use Rattle.cds_desk.specs.declared.status.Status.TheVariants.{KeeperFailed, NoMemory, Damaged};
@@ -16,6 +17,10 @@ ghost use Rattle.cds_desk.specs.declared.routes.Route.{Route};
 ghost use Rattle.cds_desk.specs.State.{State, after_change, cost_of};
 ghost use Rattle.cds_desk.specs.Service.{Way, MayGo, turn};
 ghost use Rattle.cds_graph.specs.Keys.{fresh};
+ghost use Rattle.cds_book.specs.Inputs.{inputs_of};
+ghost use Rattle.cds_book.specs.Plan.{applied, signature, Accepts};
+ghost use Rattle.cds_book.specs.Tables.{TablesState, signed_of};
+ghost use Rattle.cds_sign.specs.declared.command.Change.TheVariants as change;
 ghost use Rattle.cds_desk.specs.Judged.{change_of};
 ghost use Rattle.cds_desk.specs.Step.{judged, step};
 ghost use Rattle.cds_desk.specs.Words.{number_limit};
@@ -46,6 +51,14 @@ pub fn a_step_answers_neither_503_nor_507()
         × ((step state m moment).reply.status ≢ 507) }
 {}
 
+/// A signature that is made is read back under its number, as it was made and over the inputs of then.
+pub fn a_made_signature_is_read_back()
+    ensures { (tables : TablesState) (sequence : List ℕ) (number basis moment : ℕ) (name meaning text : List ℕ)
+        → let made = change.Sign sequence number basis moment name meaning text in
+        Accepts tables made → signed_of (applied tables made) sequence number
+        ≡ option_map (signature number basis moment name meaning text) (inputs_of tables sequence) }
+{}
+
 /// What the turn of a request costs at most: the steps of the rows and the noises whose keys the step of the machine
 /// makes new. A request that only reads, is refused or changes nothing takes no step, whichever way its turn goes.
 pub fn a_turn_costs_what_its_step_makes_new()
@@ -73,11 +86,12 @@ pub fn each_route_is_found_by_its_path()
 {}
 
 /// The limits of the desk: that of a number in a word, the greatest number in a path, the most digits of a number on
-/// the command line, the number of the refusal of a source that is too long, and the numbers with which the program
-/// ends.
+/// the command line, the number of the refusal of a source that is too long, the number of bytes below which a signed
+/// text is, and the numbers with which the program ends.
 pub fn the_limits()
     ensures words { number_limit ≡ 2 ^ 64 }
     ensures numbers { (MOST_PATH_NUMBER ≡ 4294967295) × (MOST_DIGITS ≡ 20) × (TOO_MANY_BYTES ≡ 9) }
+    ensures texts { SIGNED_LIMIT ≡ 2 ^ 31 }
     ensures served { (exit_number Done ≡ 0) × (exit_number Refused ≡ 1) × (exit_number NoCommand ≡ 2)
         × (exit_number SourceFailed ≡ 3) }
     ensures unserved { (exit_number SinkFailed ≡ 4) × (exit_number KeeperFailed ≡ 5) × (exit_number NoMemory ≡ 6)

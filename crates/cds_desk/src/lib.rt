@@ -11,10 +11,12 @@ mod laws;
 mod methods;
 mod peaks;
 mod refusals;
+mod reports;
 mod routes;
 mod sequences;
 mod serving;
 mod session;
+mod signing;
 mod state;
 mod status;
 mod target;
@@ -27,9 +29,10 @@ pub use answer::TOO_MANY_BYTES;
 pub use desk::{Desk, OpenError};
 pub use judged::Judged;
 pub use laws::{
-    a_step_answers_neither_503_nor_507, a_turn_costs_what_its_step_makes_new,
-    each_route_is_found_by_its_path, refused_request_changes_nothing,
-    repeated_request_changes_nothing, served_items_have_one_outcome, the_limits,
+    a_made_signature_is_read_back, a_step_answers_neither_503_nor_507,
+    a_turn_costs_what_its_step_makes_new, each_route_is_found_by_its_path,
+    refused_request_changes_nothing, repeated_request_changes_nothing,
+    served_items_have_one_outcome, the_limits,
 };
 pub use routes::Route;
 pub use serving::Ended;
@@ -37,6 +40,8 @@ pub use status::Status;
 pub use target::Target;
 pub use top::run;
 
+#[cfg(test)]
+mod report_tests;
 #[cfg(test)]
 mod test_devices;
 #[cfg(test)]

@@ -4,7 +4,8 @@ ghost use Rattle.std.specs.Prelude.{◌≡◌, ◌≢◌, IfOk, Some, None};
 ghost use Rattle.cds_wire.specs.declared.error.BodyError.TheVariants.{NoMemory as WantsMemory};
 ghost use Rattle.cds_desk.specs.Refusals.{no_route, other_method, csv_reply, toml_reply, body_reply, absent_reply};
 ghost use Rattle.cds_desk.specs.Refusals.{absent_version, in_path, in_body, missing_method, missing_sequence, told_as};
-ghost use Rattle.cds_desk.specs.Refusals.{value_told, plan_reply, refused_field, absent_signature};
+ghost use Rattle.cds_desk.specs.Refusals.{value_told, plan_reply, refused_field};
+ghost use Rattle.cds_desk.specs.Refusals.{absent_sequence, absent_row, absent_signature};
 
 use cds_base::{Name, NoMemory, Text};
 use cds_book::{Command, PlanError};
@@ -195,6 +196,28 @@ pub(crate) fn absent_version(
     }
 }
 
+/// The reply where a sequence isn't there.
+pub(crate) fn absent_sequence(alloc: Global, name: Name) -> Result<Reply, NoMemory>
+    ensures { IfOk result (λ r. r ≡ absent_sequence name) }
+{
+    absent(alloc, 4, word_of(alloc, name.as_bytes())?)
+}
+
+/// The reply where a row isn't there: it shows the number where the sequence is there, and else its name.
+pub(crate) fn absent_row(
+    alloc: Global,
+    name: Name,
+    n: u32,
+    has_sequence: bool,
+) -> Result<Reply, NoMemory>
+    ensures { IfOk result (λ r. r ≡ absent_row name n has_sequence) }
+{
+    if has_sequence {
+        return absent(alloc, 5, Shown::Number(u64::from(n)));
+    }
+    absent_sequence(alloc, name)
+}
+
 /// The reply where a signature isn't there: it shows the number where the sequence is there, and else its name.
 pub(crate) fn absent_signature(
     alloc: Global,
@@ -207,7 +230,7 @@ pub(crate) fn absent_signature(
     if has_sequence {
         return absent(alloc, 6, Shown::Number(u64::from(number)));
     }
-    absent(alloc, 4, word_of(alloc, name.as_bytes())?)
+    absent_sequence(alloc, name)
 }
 
 /// The reply where what a path names isn't there.

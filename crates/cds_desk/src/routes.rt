@@ -29,6 +29,14 @@ pub enum Route {
     PutEvents,
     /// A sequence is bound to another version of its method.
     PostReprocess,
+    /// A sequence is signed.
+    PostSignature,
+    /// The results of a sequence are read.
+    GetResults,
+    /// The results of a row of a sequence are read.
+    GetRow,
+    /// The system suitability of a sequence is read.
+    GetSuitability,
     /// The text of a signature is read.
     GetSignature,
 }
@@ -47,6 +55,10 @@ impl Route {
             Route::PutSequence => "/sequences/{name}",
             Route::PutEvents => "/sequences/{name}/rows/{number}/events",
             Route::PostReprocess => "/sequences/{name}/reprocess",
+            Route::PostSignature => "/sequences/{name}/signatures",
+            Route::GetResults => "/sequences/{name}/results",
+            Route::GetRow => "/sequences/{name}/results/{number}",
+            Route::GetSuitability => "/sequences/{name}/suitability",
             Route::GetSignature => "/sequences/{name}/signatures/{number}",
         }
     }
@@ -58,8 +70,13 @@ impl Route {
         match self {
             Route::PutTrace | Route::PutDraft | Route::PutSequence | Route::PutEvents =>
                 Method::PUT,
-            Route::GetTrace | Route::GetMethod | Route::GetSignature => Method::GET,
-            Route::PostVersion | Route::PostReprocess => Method::POST,
+            Route::GetTrace
+            | Route::GetMethod
+            | Route::GetResults
+            | Route::GetRow
+            | Route::GetSuitability
+            | Route::GetSignature => Method::GET,
+            Route::PostVersion | Route::PostReprocess | Route::PostSignature => Method::POST,
         }
     }
 
@@ -69,18 +86,21 @@ impl Route {
     {
         match self {
             Route::GetTrace => Some(3),
-            Route::GetMethod | Route::PutEvents | Route::GetSignature => Some(4),
+            Route::GetMethod | Route::PutEvents | Route::GetRow | Route::GetSignature => Some(4),
             Route::PutTrace
             | Route::PutDraft
             | Route::PostVersion
             | Route::PutSequence
-            | Route::PostReprocess => None,
+            | Route::PostReprocess
+            | Route::PostSignature
+            | Route::GetResults
+            | Route::GetSuitability => None,
         }
     }
 }
 
 /// All routes.
-fn all_routes() -> [Route; 9]
+fn all_routes() -> [Route; 13]
     ensures { result ≡ all_routes }
 {
     [
@@ -92,6 +112,10 @@ fn all_routes() -> [Route; 9]
         Route::PutSequence,
         Route::PutEvents,
         Route::PostReprocess,
+        Route::PostSignature,
+        Route::GetResults,
+        Route::GetRow,
+        Route::GetSuitability,
         Route::GetSignature,
     ]
 }

@@ -46,9 +46,9 @@ impl Desk {
     /// that were read fix what is written, whatever the sizes of the reads. A change is put to the keeper, whose
     /// store is open, and then carried out; a request that is refused, finds no memory or a keeper that fails changes
     /// nothing. After `SinkFailed` a front of what is due stands in the sink; with every other answer no write failed.
-    /// What a load would find keeps step with what is kept. `NoMemory` comes before anything is read or written. No
-    /// request asks the clock yet. No more steps are taken than the changes of the requests cost, of which each costs
-    /// those of the rows and noises whose keys it makes new.
+    /// What a load would find keeps step with what is kept. `NoMemory` comes before anything is read or written. The
+    /// clock is asked once for each signature that would be made, and for nothing else. No more steps are taken than the
+    /// changes of the requests cost, of which each costs those of the rows and noises whose keys it makes new.
     pub fn serve_connection<S: Source, W: Sink, K: Keeper, C: Clock, L: Ledger>(
         &mut self,
         source: &mut S,
@@ -58,8 +58,9 @@ impl Desk {
         steps: &mut Steps<L>,
     ) -> Ended
         requires { (K.told keeper.old).is_open ≡ true }
-        ensures ends { EndsAs result (world (W.told sink.old).written self.old (K.told keeper.old) steps.old)
-            (world (W.told sink.new).written self.new (K.told keeper.new) steps.new)
+        ensures ends { EndsAs result
+            (world (W.told sink.old).written self.old (K.told keeper.old) steps.old (C.moments clock.old))
+            (world (W.told sink.new).written self.new (K.told keeper.new) steps.new (C.moments clock.new))
             (reading (S.told source.old).given (S.told source.old).left)
             (reading (S.told source.new).given (S.told source.new).left) }
         ensures failed_read { result ≢ Ended.SourceFailed → (S.told source.new).faults ≡ (S.told source.old).faults }
@@ -70,12 +71,12 @@ impl Desk {
             → Rose (S.told source.old).faults (S.told source.new).faults }
         ensures sink_failed { result ≡ Ended.SinkFailed → Rose (W.told sink.old).faults (W.told sink.new).faults }
         ensures no_memory { result ≡ Ended.NoMemory → (self.new ≡ self.old) × (source.new ≡ source.old)
-            × (sink.new ≡ sink.old) × (keeper.new ≡ keeper.old) × (steps.new ≡ steps.old) }
+            × (sink.new ≡ sink.old) × (keeper.new ≡ keeper.old) × (steps.new ≡ steps.old)
+            × (clock.new ≡ clock.old) }
         ensures stays_open { (K.told keeper.new).is_open ≡ true }
         ensures source_counts { (S.told source.old).faults ≤ (S.told source.new).faults }
         ensures sink_counts { (W.told sink.old).faults ≤ (W.told sink.new).faults }
         ensures keeper_counts { (K.told keeper.old).faults ≤ (K.told keeper.new).faults }
-        ensures clock_stays { clock.new ≡ clock.old }
     {
         let Ok(mut messages) = Messages::new(self.alloc) else {
             return Ended::NoMemory;
@@ -123,12 +124,12 @@ impl Desk {
         requires opened { (K.told keeper.old).is_open ≡ true }
         requires whole { IsRequestIn messages.now.bytes request }
         ensures served { OnOk result (ItemServed
-            (world (W.told sink.old).written self.old (K.told keeper.old) steps.old)
-            (world (W.told sink.new).written self.new (K.told keeper.new) steps.new)
+            (world (W.told sink.old).written self.old (K.told keeper.old) steps.old (C.moments clock.old))
+            (world (W.told sink.new).written self.new (K.told keeper.new) steps.new (C.moments clock.new))
             (request_item (message_of messages.now.bytes request))) }
         ensures broken { OnErr result (ItemBroken
-            (world (W.told sink.old).written self.old (K.told keeper.old) steps.old)
-            (world (W.told sink.new).written self.new (K.told keeper.new) steps.new)
+            (world (W.told sink.old).written self.old (K.told keeper.old) steps.old (C.moments clock.old))
+            (world (W.told sink.new).written self.new (K.told keeper.new) steps.new (C.moments clock.new))
             (request_item (message_of messages.now.bytes request))) }
         ensures finds { (name : List ℕ)
             → FindsOn (K.finds keeper.old name) (K.finds keeper.new name) (K.told keeper.old) (K.told keeper.new) }
@@ -137,10 +138,9 @@ impl Desk {
         ensures counts { (W.told sink.old).faults ≤ (W.told sink.new).faults }
         ensures stays_open { (K.told keeper.new).is_open ≡ true }
         ensures keeper_counts { (K.told keeper.old).faults ≤ (K.told keeper.new).faults }
-        ensures clock_stays { clock.new ≡ clock.old }
     {
         let asked = asked_in(messages.bytes(), request);
-        let answered = answer(
+        let turned = answer(
             self.alloc,
             &self.router,
             &mut self.state,
@@ -149,7 +149,7 @@ impl Desk {
             steps,
             asked,
         );
-        write_answer(sink, &answered, asked.close, asked.without_body)
+        write_answer(sink, &turned.answered, asked.close, asked.without_body)
     }
 }
 

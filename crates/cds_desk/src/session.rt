@@ -27,12 +27,11 @@ pub(crate) fn session<S: Source, W: Sink, K: Keeper, C: Clock, L: Ledger>(
 ) -> Status
     ensures ran { SessionRan store.now result
         (devices (streams source.old (S.told source.old) sink.old (W.told sink.old)) keeper.old (K.told keeper.old)
-        (K.finds keeper.old) steps.old)
+        (K.finds keeper.old) steps.old clock.old (C.moments clock.old))
         (devices (streams source.new (S.told source.new) sink.new (W.told sink.new)) keeper.new (K.told keeper.new)
-        (K.finds keeper.new) steps.new) }
+        (K.finds keeper.new) steps.new clock.new (C.moments clock.new)) }
     ensures ends { StreamsEnd result (streams source.old (S.told source.old) sink.old (W.told sink.old))
         (streams source.new (S.told source.new) sink.new (W.told sink.new)) }
-    ensures clock_stays { clock.new ≡ clock.old }
 {
     let records = match keeper.load(store) {
         Ok(records) => records,

@@ -51,6 +51,13 @@ impl State {
         &self.tables
     }
 
+    /// The graph, which stands for the tables.
+    pub(crate) fn graph(&self) -> &Graph
+        ensures { StandsFor self.now.held.tables result.now }
+    {
+        &self.graph
+    }
+
     /// Takes the room for a change, in place of the room for another one, and builds the graph that stands for the
     /// tables after it. Nothing that is held changes, also where memory is wanting, which is the only refusal. No more
     /// steps than the change costs.

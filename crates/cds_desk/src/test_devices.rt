@@ -1,6 +1,7 @@
 //! What the tests of the top call share: it runs over devices in memory.
 
-ghost use Rattle.std.specs.Prelude.{◌≡◌, ◌<◌, Some, None};
+ghost use Rattle.std.specs.Prelude.{◌≡◌, ◌<◌, All, Some, None};
+ghost use Rattle.cds_base.specs.Clock.{IsMoment};
 ghost use Rattle.cds_keep.specs.Found.{damaged};
 
 use crate::run;
@@ -39,7 +40,21 @@ pub(crate) fn over<K: Keeper>(
     sink: &mut MemSink,
     keeper: &mut K,
 ) -> Result<u8, Fail> {
-    let mut clock = FixedClock::new(alloc, &[], 0)?;
+    at_moments(alloc, words, source, sink, keeper, &[])
+}
+
+// The same, with a clock that answers these moments, and then 0.
+pub(crate) fn at_moments<K: Keeper>(
+    alloc: Global,
+    words: &[String],
+    source: &mut MemSource,
+    sink: &mut MemSink,
+    keeper: &mut K,
+    moments: &[u64],
+) -> Result<u8, Fail>
+    requires { All IsMoment moments.now }
+{
+    let mut clock = FixedClock::new(alloc, moments, 0)?;
     let mut door = MemDoor::new(alloc, VecDeque::new(alloc), &[])?;
     Ok(counted::<MemSource, MemSink, K, FixedClock, MemDoor, Brand>(
         Blank::new(1),

@@ -39,7 +39,8 @@ const USAGE: &[u8] = b"usage: cds peaks|session|serve|demo|migrate\n";
 ///
 /// Other words are no command: the line of usage is written, and nothing is read or loaded (status 2). A sink that
 /// fails in the line of 2, of 8 or of a refused trace leaves that status. Status 6 is want of memory, and nothing is
-/// then written. The clock and the door are not used yet.
+/// then written. The clock is asked once for each signature that a session would make, and for nothing else. The door
+/// is not used yet.
 pub fn run<S: Source, W: Sink, K: Keeper, C: Clock, D: Door, L: Ledger>(
     alloc: Global,
     words: &[String],
@@ -52,13 +53,12 @@ pub fn run<S: Source, W: Sink, K: Keeper, C: Clock, D: Door, L: Ledger>(
 ) -> u8
     ensures ran { (ended : Status) × (result ≡ exit_number ended) × Ran (command_of (map string_bytes words.now)) ended
         (devices (streams source.old (S.told source.old) sink.old (W.told sink.old)) keeper.old (K.told keeper.old)
-        (K.finds keeper.old) steps.old)
+        (K.finds keeper.old) steps.old clock.old (C.moments clock.old))
         (devices (streams source.new (S.told source.new) sink.new (W.told sink.new)) keeper.new (K.told keeper.new)
-        (K.finds keeper.new) steps.new)
+        (K.finds keeper.new) steps.new clock.new (C.moments clock.new))
         × StreamsEnd ended (streams source.old (S.told source.old) sink.old (W.told sink.old))
         (streams source.new (S.told source.new) sink.new (W.told sink.new)) }
     ensures keeper_counts { (K.told keeper.old).faults ≤ (K.told keeper.new).faults }
-    ensures clock_stays { clock.new ≡ clock.old }
     ensures door_stays { _door.new ≡ _door.old }
 {
     carry_out(alloc, words, source, sink, keeper, clock, steps).number()
@@ -76,13 +76,12 @@ fn carry_out<S: Source, W: Sink, K: Keeper, C: Clock, L: Ledger>(
 ) -> Status
     ensures ran { Ran (command_of (map string_bytes words.now)) result
         (devices (streams source.old (S.told source.old) sink.old (W.told sink.old)) keeper.old (K.told keeper.old)
-        (K.finds keeper.old) steps.old)
+        (K.finds keeper.old) steps.old clock.old (C.moments clock.old))
         (devices (streams source.new (S.told source.new) sink.new (W.told sink.new)) keeper.new (K.told keeper.new)
-        (K.finds keeper.new) steps.new) }
+        (K.finds keeper.new) steps.new clock.new (C.moments clock.new)) }
     ensures ends { StreamsEnd result (streams source.old (S.told source.old) sink.old (W.told sink.old))
         (streams source.new (S.told source.new) sink.new (W.told sink.new)) }
     ensures keeper_counts { (K.told keeper.old).faults ≤ (K.told keeper.new).faults }
-    ensures clock_stays { clock.new ≡ clock.old }
 {
     match read_words(words) {
         Some(CommandLine::Peaks(options)) => return peaks(alloc, options, source, sink, steps),

@@ -5,5 +5,5 @@ pub decide-requires-clause-command : goal.decide-requires-clause-command
 decide-requires-clause-command c =
     (reprocess_stated c.args.name c.args.body.now c.in-Ok.command c.in-Ok.ensures.value).ranged c.in-Ok.ensures.ranges
 
-pub decide-requires-clause-routed : goal.decide-requires-clause-routed
-decide-requires-clause-routed c = (reprocess_stated c.args.name c.args.body.now c.in-Ok.command c.in-Ok.ensures.value).routed
+pub decide-requires-clause-brief : goal.decide-requires-clause-brief
+decide-requires-clause-brief c = (reprocess_stated c.args.name c.args.body.now c.in-Ok.command c.in-Ok.ensures.value).brief

@@ -18,6 +18,7 @@ returns-in-Err-Damaged-clause-ran g c =
         loads_once = search rules;
         reads_nothing = search rules;
         takes_no_step = search rules;
+        asks_no_clock = search rules;
         count_stays = search rules;
         keeper_failed = search rules;
         damaged = λ _. (c.in-Err-Damaged.number, damage_found _ _ found, sent);
@@ -44,6 +45,7 @@ returns-clause-ran g c =
               (reading (g.S.Source.told c.args.source.now).given (g.S.Source.told c.args.source.now).left)
               (reading (g.S.Source.told c.serve_connection-ended.new.source).given (g.S.Source.told c.serve_connection-ended.new.source).left)
               c.args.steps.now c.serve_connection-ended.new.steps
+              (g.C.Clock.moments c.args.clock.now) (g.C.Clock.moments c.serve_connection-ended.new.clock)
               c.in-Ok.ensures.found c.in-Ok.ensures.holds c.in-Ok.ensures.opened count c.in-Ok.ensures.called c.in-Ok-open.ensures.opens
               (rw c.in-Ok-open.ensures.steps at c.serve_connection-ended.ensures.ends),
         );
@@ -62,6 +64,7 @@ returns-clause-ran g c =
             loads_once = ap (λ k. (g.K.Keeper.told k).calls) same.3 ∙ c.in-Ok.ensures.called;
             reads_nothing = same.1;
             takes_no_step = same.4 ∙ c.in-Ok-open.ensures.steps;
+            asks_no_clock = same.5;
             count_stays = λ _. ap (λ k. (g.K.Keeper.told k).faults) same.3 ∙ count;
             keeper_failed = λ f. absurd (not_for_keeper e (sym c.status_of.ensures ∙ f));
             damaged = λ f. absurd (not_for_damage e (sym c.status_of.ensures ∙ f));

@@ -19,7 +19,6 @@ loop-source-init g c = record {
   bounded = rw c.in-Ok.ensures (λ some. absurd (omega (arith, some)));
   source_kept = refl;
   sink_kept = refl;
-  clock_stays = refl;
   keeper_counts = omega arith;
 }
 
@@ -55,7 +54,6 @@ loop-source-preserved-in-Ok-ask g c =
       bounded = λ _. bounded_by _ _ _ i.total c.in-Ok-ask.ensures.bounded i.bounded;
       source_kept = c.in-Ok-ask.ensures.kept ∙ i.source_kept;
       sink_kept = i.sink_kept;
-      clock_stays = i.clock_stays;
       keeper_counts = i.keeper_counts;
     }
 
@@ -80,7 +78,6 @@ loop-source-preserved-in-Ok-send_fixed g c =
       bounded = λ some. i.bounded (omega (arith, some, place, bytes));
       source_kept = i.source_kept;
       sink_kept = c.in-Ok-send_fixed.ensures.kept ∙ i.sink_kept;
-      clock_stays = i.clock_stays;
       keeper_counts = i.keeper_counts;
     }
 
@@ -131,7 +128,6 @@ loop-source-preserved g c =
       bounded = λ some. i.bounded (omega (arith, some, stands.0, stands.1));
       source_kept = i.source_kept;
       sink_kept = c.in-Ok-serve.ensures.kept ∙ i.sink_kept;
-      clock_stays = c.in-Ok-serve.ensures.clock_stays ∙ i.clock_stays;
       keeper_counts = omega (arith, i.keeper_counts, c.in-Ok-serve.ensures.keeper_counts);
     }
 

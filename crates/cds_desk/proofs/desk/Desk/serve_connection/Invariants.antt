@@ -7,8 +7,8 @@ use Rattle.cds_desk.proofs.desk.Desk.serve_connection.Given as goal
 abbrev pub invariant-loop-source : goal.invariant-loop-source
 invariant-loop-source g l = record {
   so_far : SoFar
-      (world (g.W.Sink.told l.initial.sink).written l.initial.self (g.K.Keeper.told l.initial.keeper) l.initial.steps)
-      (world (g.W.Sink.told l.sink).written l.self (g.K.Keeper.told l.keeper) l.steps)
+      (world (g.W.Sink.told l.initial.sink).written l.initial.self (g.K.Keeper.told l.initial.keeper) l.initial.steps (g.C.Clock.moments l.initial.clock))
+      (world (g.W.Sink.told l.sink).written l.self (g.K.Keeper.told l.keeper) l.steps (g.C.Clock.moments l.clock))
       (reading (g.S.Source.told l.initial.source).given (g.S.Source.told l.initial.source).left)
       (reading (g.S.Source.told l.source).given (g.S.Source.told l.source).left)
       l.messages;
@@ -21,7 +21,6 @@ invariant-loop-source g l = record {
   bounded : 0 < l.messages.place + length l.messages.bytes → (g.S.Source.told l.initial.source).bound < 2 ^ 64;
   source_kept : (g.S.Source.told l.source).faults ≡ (g.S.Source.told l.initial.source).faults;
   sink_kept : (g.W.Sink.told l.sink).faults ≡ (g.W.Sink.told l.initial.sink).faults;
-  clock_stays : l.clock ≡ l.initial.clock;
   keeper_counts : (g.K.Keeper.told l.initial.keeper).faults ≤ (g.K.Keeper.told l.keeper).faults;
 }
 
