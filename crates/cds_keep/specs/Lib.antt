@@ -1,3 +1,4 @@
+pub mod Crash
 pub mod Found
 pub mod Held
 pub mod Told

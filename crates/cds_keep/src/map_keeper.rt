@@ -59,6 +59,8 @@ impl Keeper for MapKeeper {
 
     ghost finds = { λ s _. Some (records s.content) };
 
+    ghost leaves_now = { λ _ tells _ _ _. absurd tells };
+
     /// As the trait says. It fails exactly at the calls that are to fail, and finds no record damaged.
     fn load(&mut self, _store: &str) -> Result<Records, LoadError>
         ensures opened { self.new.is_open ≡ is_ok result }

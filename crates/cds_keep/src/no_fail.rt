@@ -42,6 +42,8 @@ impl Keeper for NoFailKeeper {
 
     ghost finds = { λ s _. Some (records s.content) };
 
+    ghost leaves_now = { λ _ tells _ _ _. absurd tells };
+
     fn load(&mut self, _store: &str) -> Result<Records, LoadError> {
         self.is_open = false;
         self.calls = self.calls.saturating_add(1);
