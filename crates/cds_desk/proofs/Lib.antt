@@ -1,4 +1,3 @@
-pub mod Numbers
 pub mod ServingLaws
 pub mod ToldItems
 pub mod TurnLaws
@@ -9,3 +8,6 @@ pub mod StatusLaws
 pub mod RouteLaws
 pub mod BodyLaws
 pub mod SignLaws
+pub mod AskedChange
+pub mod OpeningLaws
+pub mod ServeLaws

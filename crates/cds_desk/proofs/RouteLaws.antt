@@ -9,7 +9,7 @@ use Rattle.matchit.specs.Rows.{RowsOf, param_token}
 use Rattle.matchit.specs.Router.{RouteOf}
 use Rattle.matchit.specs.Seek.{first, seek, step, own, param_step, longest_suffix, with_suffix, has_slash, cuts, segment as front}
 use Rattle.cds_base.specs.NameText.{IsName, is_name, is_name_byte, name_of}
-use Rattle.cds_desk.specs.Words.{is_number, number_of, number_in, within}
+use Rattle.cds_words.specs.Numbers.{is_number, number_of, number_in, within}
 use Rattle.cds_desk.specs.declared.target.TheConstants.{MOST_PATH_NUMBER}
 use Rattle.cds_desk.specs.Routes.{route_table, is_slash, is_question_mark, path_of, segment, number_at, number_in_path, path_number, target_of, path_with, number_of_path}
 use Rattle.cds_desk.specs.declared.routes.Route.{Route}

@@ -1,7 +1,6 @@
 pub mod State
 pub mod Statuses
 pub mod PeaksAnswer
-pub mod Words
 pub mod Routes
 pub mod Judged
 pub mod Refusals
@@ -15,3 +14,5 @@ pub mod Session
 pub mod Run
 pub mod Repeat
 pub mod Signing
+pub mod Serve
+pub mod Stores

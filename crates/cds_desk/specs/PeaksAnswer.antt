@@ -12,7 +12,7 @@ use Rattle.cds_respond.specs.declared.receiving.TheConstants.{MOST_SOURCE_BYTES}
 use Rattle.cds_desk.specs.declared.answer.Answer.{Answer}
 use Rattle.cds_desk.specs.declared.answer.TheConstants.{TOO_MANY_BYTES}
 use Rattle.cds_desk.specs.declared.status.Status.TheVariants.{Done, Refused}
-use Rattle.cds_desk.specs.declared.words.PeaksOptions.{PeaksOptions}
+use Rattle.cds_words.specs.declared.command.PeaksOptions.{PeaksOptions}
 
 -- by what peaks are found with these options: no timed event changes anything
 abbrev pub settings_of_options : PeaksOptions → Settings

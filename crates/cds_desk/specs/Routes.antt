@@ -9,7 +9,7 @@ use Rattle.matchit.specs.Route.{Scan, parse_route}
 use Rattle.matchit.specs.Seek.{first}
 use Rattle.matchit.specs.declared.error.InsertError.{InsertError}
 use Rattle.cds_base.specs.NameText.{name_of}
-use Rattle.cds_desk.specs.Words.{number_in}
+use Rattle.cds_words.specs.Numbers.{number_in}
 use Rattle.cds_desk.specs.declared.target.TheConstants.{MOST_PATH_NUMBER}
 use Rattle.cds_desk.specs.declared.routes.Route.{Route}
 use Rattle.cds_desk.specs.declared.routes.Route.TheVariants as route

@@ -6,13 +6,13 @@ ghost use Rattle.cds_desk.specs.PeaksAnswer.{peaks_answer, answer_to_trace, refu
 ghost use Rattle.std.specs.String.{string_bytes};
 
 use crate::status::Status;
-use crate::words::PeaksOptions;
 use cds_base::{Bytes, NoMemory, Steps};
 use cds_detect::raw_peaks;
 use cds_report::peaks_text;
 use cds_respond::MOST_SOURCE_BYTES;
 use cds_rules::Method;
 use cds_trace::{Trace, TraceError};
+use cds_words::PeaksOptions;
 use std::alloc::Global;
 use std::sync::ledger::Ledger;
 

@@ -1,10 +1,10 @@
 //! The desk, and its opening with the records of a store.
 
 ghost use Rattle.cds_desk.specs.declared.desk.OpenError.TheVariants.{NoMemory};
-ghost use Rattle.std.specs.Prelude.{◌≡◌, Err};
-ghost use Rattle.cds_desk.specs.Opening.{opened};
-ghost use Rattle.cds_base.specs.Answers.{Gives};
+ghost use Rattle.std.specs.Prelude.{◌≡◌, ◌≤◌, ℕ, [], Err, IfOk};
+ghost use Rattle.cds_desk.specs.Opening.{Opens, StopsAt};
 
+use crate::opening::accept;
 use crate::routes::{Route, route_table};
 use crate::state::State;
 use cds_base::Steps;
@@ -52,24 +52,47 @@ impl From<AllocError> for OpenError {
 }
 
 impl Desk {
-    #[tactic(auto, using(crate::proofs::SessionLaws::opened_some))]
-    /// The desk whose state the records make, one after the other. Damaged exactly where a record makes none, with
-    /// the number of the first such record. No record is accepted yet, so where there is one, it is record 1. No step.
+    /// The desk whose state the records make, one after the other. Damaged exactly where a record isn't accepted in the
+    /// state that those before it made, with the number of the first such record, counted from 1: where it is the record
+    /// of no change, in either format; where the tables don't accept its change, one that would change nothing included;
+    /// or where the text of a signature isn't the one that is computed from the tables before it. No step for no record.
     pub fn open<L: Ledger>(
         alloc: Global,
         records: &Records,
         steps: &mut Steps<L>,
     ) -> Result<Desk, OpenError>
-        ensures opens { Gives OpenError.NoMemory (λ state. state) (opened records.now) result }
-        ensures steps { steps.new ≡ steps.old }
+        ensures opens { IfOk result (λ desk. Opens records.now desk) }
+        ensures damaged { (number : ℕ) → result ≡ Err (OpenError.Damaged number) → StopsAt records.now number }
+        ensures no_step { records.now ≡ [] → steps.new ≡ steps.old }
+        ensures counts { steps.old ≤ steps.new }
     {
-        if 0 < records.len() {
-            return Err(OpenError::Damaged(1));
-        }
+        let router = route_table(alloc)?;
+        let state = state_of(alloc, records, steps)?;
         Ok(Desk {
             alloc,
-            router: route_table(alloc)?,
-            state: State::new(alloc, steps)?,
+            router,
+            state,
         })
     }
+}
+
+/// The state that the records make, one after the other.
+#[tactic(auto, using(crate::proofs::OpeningLaws::makes_next, crate::proofs::OpeningLaws::stops_here))]
+fn state_of<L: Ledger>(
+    alloc: Global,
+    records: &Records,
+    steps: &mut Steps<L>,
+) -> Result<State, OpenError>
+    ensures opens { IfOk result (λ state. Opens records.now state.held) }
+    ensures damaged { (number : ℕ) → result ≡ Err (OpenError.Damaged number) → StopsAt records.now number }
+    ensures no_step { records.now ≡ [] → steps.new ≡ steps.old }
+    ensures counts { steps.old ≤ steps.new }
+{
+    let mut state = State::new(alloc, steps)?;
+    for place in 0..records.len() {
+        if !accept(alloc, &mut state, records.get(place), steps)? {
+            return Err(OpenError::Damaged(place + 1));
+        }
+    }
+    Ok(state)
 }

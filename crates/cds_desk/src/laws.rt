@@ -8,8 +8,7 @@ ghost use Rattle.cds_desk.specs.declared.target.TheConstants.{MOST_PATH_NUMBER};
 ghost use Rattle.cds_desk.specs.declared.signing.TheConstants.{SIGNED_LIMIT};
 ghost use Rattle.cds_desk.specs.Statuses.{exit_number};
 ghost use Rattle.cds_desk.specs.declared.status.Status.TheVariants.{Done, Refused, NoCommand, SourceFailed, SinkFailed};
-ghost use Rattle.cds_desk.specs.declared.status.Status.TheVariants.{KeeperFailed, NoMemory, Damaged};
-ghost use Rattle.cds_desk.specs.declared.words.TheConstants.{MOST_DIGITS};
+ghost use Rattle.cds_desk.specs.declared.status.Status.TheVariants.{DoorFailed, KeeperFailed, NoMemory, Damaged};
 ghost use Rattle.cds_desk.specs.Repeat.{IsUnchanged};
 ghost use Rattle.cds_base.specs.NameText.{IsName};
 ghost use Rattle.cds_desk.specs.Routes.{path_number, path_with, number_of_path, target_of};
@@ -23,7 +22,6 @@ ghost use Rattle.cds_book.specs.Tables.{TablesState, signed_of};
 ghost use Rattle.cds_sign.specs.declared.command.Change.TheVariants as change;
 ghost use Rattle.cds_desk.specs.Judged.{change_of};
 ghost use Rattle.cds_desk.specs.Step.{judged, step};
-ghost use Rattle.cds_desk.specs.Words.{number_limit};
 
 use cds_book::{a_change_is_what_was_asked, a_repeated_change_changes_nothing};
 use cds_graph::nothing_is_new_where_nothing_changed;
@@ -85,15 +83,13 @@ pub fn each_route_is_found_by_its_path()
         (record { route = r; name = name; number = number_of_path r number }) }
 {}
 
-/// The limits of the desk: that of a number in a word, the greatest number in a path, the most digits of a number on
-/// the command line, the number of the refusal of a source that is too long, the number of bytes below which a signed
-/// text is, and the numbers with which the program ends.
+/// The limits of the desk: the greatest number in a path, the number of the refusal of a source that is too long, the
+/// number of bytes below which a signed text is, and the numbers with which the program ends.
 pub fn the_limits()
-    ensures words { number_limit ≡ 2 ^ 64 }
-    ensures numbers { (MOST_PATH_NUMBER ≡ 4294967295) × (MOST_DIGITS ≡ 20) × (TOO_MANY_BYTES ≡ 9) }
+    ensures numbers { (MOST_PATH_NUMBER ≡ 4294967295) × (TOO_MANY_BYTES ≡ 9) }
     ensures texts { SIGNED_LIMIT ≡ 2 ^ 31 }
     ensures served { (exit_number Done ≡ 0) × (exit_number Refused ≡ 1) × (exit_number NoCommand ≡ 2)
         × (exit_number SourceFailed ≡ 3) }
     ensures unserved { (exit_number SinkFailed ≡ 4) × (exit_number KeeperFailed ≡ 5) × (exit_number NoMemory ≡ 6)
-        × (exit_number Damaged ≡ 8) }
+        × (exit_number DoorFailed ≡ 7) × (exit_number Damaged ≡ 8) }
 {}

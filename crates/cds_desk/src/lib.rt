@@ -3,27 +3,30 @@
 #![tactic(auto)]
 
 mod answer;
+mod asking;
 mod commands;
 mod desk;
 mod judge;
 mod judged;
 mod laws;
 mod methods;
+mod opening;
 mod peaks;
 mod refusals;
 mod reports;
 mod routes;
 mod sequences;
+mod serve;
 mod serving;
 mod session;
 mod signing;
 mod state;
 mod status;
+mod store;
 mod target;
 mod top;
 mod traces;
 mod turn;
-mod words;
 
 pub use answer::TOO_MANY_BYTES;
 pub use desk::{Desk, OpenError};

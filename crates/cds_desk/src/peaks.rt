@@ -9,9 +9,9 @@ ghost use Rattle.cds_desk.specs.Run.{PeaksRan, StreamsEnd, streams};
 
 use crate::answer::{Answer, peaks_answer};
 use crate::status::Status;
-use crate::words::PeaksOptions;
 use cds_base::{Failed, Sink, Source, Steps};
 use cds_respond::{ReceiveError, receive, send};
+use cds_words::PeaksOptions;
 use std::alloc::Global;
 use std::sync::ledger::Ledger;
 

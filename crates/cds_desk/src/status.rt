@@ -20,6 +20,8 @@ pub enum Status {
     KeeperFailed,
     /// Memory is wanting.
     NoMemory,
+    /// The door failed.
+    DoorFailed,
     /// The store is damaged.
     Damaged,
 }
@@ -37,6 +39,7 @@ impl Status {
             Status::SinkFailed => 4,
             Status::KeeperFailed => 5,
             Status::NoMemory => 6,
+            Status::DoorFailed => 7,
             Status::Damaged => 8,
         }
     }

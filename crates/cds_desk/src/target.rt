@@ -6,8 +6,8 @@ ghost use Rattle.cds_desk.specs.Routes.{route_table, is_slash, path_of, segment,
 ghost use Rattle.cds_desk.specs.Routes.{path_number, named_on, target_of};
 
 use crate::routes::{Route, find};
-use crate::words::number_in;
 use cds_base::Name;
+use cds_words::number_in;
 use matchit::Router;
 
 /// The greatest number that a path can name.

@@ -43,6 +43,28 @@ pub(crate) fn over<K: Keeper>(
     at_moments(alloc, words, source, sink, keeper, &[])
 }
 
+// The status of the top call over this door, without a byte of input.
+pub(crate) fn through<K: Keeper>(
+    alloc: Global,
+    words: &[String],
+    keeper: &mut K,
+    door: &mut MemDoor,
+) -> Result<u8, Fail> {
+    let mut source = MemSource::new(alloc, b"", 1, &[])?;
+    let mut sink = MemSink::new(alloc, 64, &[])?;
+    let mut clock = FixedClock::new(alloc, &[], 0)?;
+    Ok(counted::<MemSource, MemSink, K, FixedClock, MemDoor, Brand>(
+        Blank::new(1),
+        alloc,
+        words,
+        &mut source,
+        &mut sink,
+        keeper,
+        &mut clock,
+        door,
+    ))
+}
+
 // The same, with a clock that answers these moments, and then 0.
 pub(crate) fn at_moments<K: Keeper>(
     alloc: Global,
@@ -89,6 +111,8 @@ impl Keeper for Damaged {
     ghost told = { λ s. record { content = None; is_open = s.is_open; faults = 0; calls = s.calls } };
 
     ghost finds = { λ s _. Some (damaged s.record) };
+
+    ghost leaves_now = { λ _ tells _ _ _. absurd tells };
 
     fn load(&mut self, _store: &str) -> Result<Records, LoadError> {
         self.is_open = false;

@@ -1,10 +1,11 @@
 //! Tests of the top call: what is written and the status, for the words, the bytes of the source, and the calls that
 //! fail. Each table is one test, and each row is one run.
 
-use crate::test_devices::{Damaged, over, words_of};
-use cds_base::{MemSink, MemSource};
-use cds_keep::MapKeeper;
+use crate::test_devices::{Damaged, over, through, words_of};
+use cds_base::{MemDoor, MemSink, MemSource};
+use cds_keep::{Keeper, MapKeeper};
 use std::alloc::Global;
+use std::collections::VecDeque;
 use std::test::Fail;
 
 const PEAKS: &str = "peaks --bunch 1 --on 5 --off 5 --plateau 3";
@@ -116,7 +117,12 @@ fn words_are_a_command_or_none(rt: HostRuntime) -> Result<(), Fail> {
         ("peaks", 2),
         ("", 2),
         ("peaks --bunch 1 --on 5 --off 5 --plateau 3 3", 2),
-        ("peaks --on 5 --bunch 1 --off 5 --plateau 3", 2),
+        ("peaks --on 5 --bunch 1 --plateau=3 --off 5", 1),
+        ("peaks --bunch 1 --on 5 --on 5 --off 5 --plateau 3", 2),
+        ("peaks --bunch 1 --on -5 --off 5 --plateau 3", 2),
+        ("peaks --bunch= --on 5 --off 5 --plateau 3", 2),
+        ("peaks --bunch 1 --on 5 --off 5 --plateau", 2),
+        ("peaks --bunch 1 --on 5 --off 5 --plateau 3 --port 80", 2),
         ("peaks --bunch=1 --on 5 --off 5 --plateau 3 3", 2),
         ("peaks --bunch 0 --on 5 --off 5 --plateau 3", 2),
         ("peaks --bunch 65 --on 5 --off 5 --plateau 3", 2),
@@ -130,6 +136,14 @@ fn words_are_a_command_or_none(rt: HostRuntime) -> Result<(), Fail> {
         ("peaks --bunch 1 --on 5 --off 5 --plateau 0", 1),
         ("session", 0),
         ("session session", 2),
+        ("session --store a.db", 0),
+        ("session --store=a.db", 0),
+        ("session --store a.db --store a.db", 2),
+        ("serve --port 80", 2),
+        ("serve --port 0 --connections 1", 2),
+        ("serve --port 65536 --connections 1", 2),
+        ("serve --connections 1000001 --port 80", 2),
+        ("serve --connections 1000000 --port 65535 --store a.db", 7),
         ("sessions", 2),
         ("peaks --bunch 1 --on 5 --off 5 --plateau 1001", 2),
         ("peaks --bunch +1 --on 5 --off 5 --plateau 3", 2),
@@ -357,25 +371,73 @@ fn a_device_that_fails_ends_the_command(rt: HostRuntime) -> Result<(), Fail> {
     Ok(())
 }
 
-// A draft and its freeze are kept, and a store that holds a record is damaged yet.
+// A draft and its freeze are kept, and the next session begins with them: it changes nothing. A record that would change
+// nothing is none of a store.
 #[test]
 fn what_a_session_keeps_is_found_by_the_next(rt: HostRuntime) -> Result<(), Fail> {
     let alloc = rt.alloc();
     let words = words_of(alloc, "session")?;
     let mut keeper = MapKeeper::new(alloc, &[])?;
-    for status in [0, 8] {
+    let runs = [
+        (
+            0,
+            "HTTP/1.1 201 Created\r\nContent-Type: application/json\r\nContent-Length: 19\r\n\r\n{\"unchanged\":false}HTTP/1.1 201 Created\r\nContent-Type: application/json\r\nContent-Length: 31\r\n\r\n{\"unchanged\":false,\"version\":1}",
+        ),
+        (
+            0,
+            "HTTP/1.1 200 OK\r\nContent-Type: application/json\r\nContent-Length: 18\r\n\r\n{\"unchanged\":true}HTTP/1.1 200 OK\r\nContent-Type: application/json\r\nContent-Length: 30\r\n\r\n{\"unchanged\":true,\"version\":1}",
+        ),
+    ];
+    for (status, text) in runs {
         let mut source = MemSource::new(alloc, FREEZE.as_bytes(), 64, &[])?;
         let mut sink = MemSink::new(alloc, 4096, &[])?;
         assert_eq!(rt;
             over(alloc, &words, &mut source, &mut sink, &mut keeper)?,
             status
         );
-        assert!(rt; status == 0 || sink.written() == b"damaged 1\n".as_slice());
+        assert_eq!(rt; sink.written(), text.as_bytes());
     }
     assert_eq!(rt; keeper.content().len(), 2);
     assert_eq!(rt;
         keeper.content().get(1),
         b"\x02\x03\x01m\x00\x00\x00\x01".as_slice()
+    );
+    assert_eq!(rt; keeper.load("")?.len(), 2);
+    keeper.put(b"\x01\x03\x01m\x00\x00\x00\x01")?;
+    let mut source = MemSource::new(alloc, FREEZE.as_bytes(), 64, &[])?;
+    let mut sink = MemSink::new(alloc, 4, &[])?;
+    assert_eq!(rt;
+        over(alloc, &words, &mut source, &mut sink, &mut keeper)?,
+        8
+    );
+    assert_eq!(rt; sink.written(), b"damaged 3\n".as_slice());
+    assert_eq!(rt; source.left(), FREEZE.as_bytes());
+    Ok(())
+}
+
+// Two connections are served over one store, the second over what the first left, though the sink of the first fails; a
+// third is asked for and there is none.
+#[test]
+fn connections_are_served_one_after_the_other(rt: HostRuntime) -> Result<(), Fail> {
+    let alloc = rt.alloc();
+    let mut coming = VecDeque::new(alloc);
+    let first = MemSource::new(alloc, FREEZE.as_bytes(), 64, &[])?;
+    coming.push_back((first, MemSink::new(alloc, 64, &[3])?))?;
+    let second = MemSource::new(alloc, b"GET /methods/m/versions/1 HTTP/1.0\r\n\r\n", 7, &[])?;
+    coming.push_back((second, MemSink::new(alloc, 64, &[])?))?;
+    let mut door = MemDoor::new(alloc, coming, &[])?;
+    let mut keeper = MapKeeper::new(alloc, &[])?;
+    let words = words_of(alloc, "serve --port 80 --connections=3")?;
+    assert_eq!(rt; through(alloc, &words, &mut keeper, &mut door)?, 7);
+    assert_eq!(rt; door.port(), Some(80));
+    assert_eq!(rt; door.closed().len(), 2);
+    assert_eq!(rt; keeper.content().len(), 2);
+    let (source, sink) = &door.closed()[1];
+    assert_eq!(rt; source.left().len(), 0);
+    assert!(rt;
+        sink.written().starts_with(
+            b"HTTP/1.1 200 OK\r\nContent-Type: application/toml\r\nContent-Length: 115\r\n"
+        )
     );
     Ok(())
 }

@@ -1,90 +1,101 @@
-use Rattle.std.proofs.Common.{◌≡◌, ◌∙◌, Err, sym, ap, rules}
-use Rattle.cds_desk.specs.Serving.{reading}
+use Rattle.std.proofs.Common.{◌≡◌, ◌∙◌, sym, ap, refl, arith, rules}
 use Rattle.cds_desk.specs.Session.{status_of}
-use Rattle.cds_desk.proofs.SessionLaws.{served_until, damage_found, finds_loaded, finds_again, unserved_for_memory, not_for_keeper, not_for_damage, no_error}
-use Rattle.cds_desk.proofs.SessionLaws.{not_for_words, source_failed, sink_failed, memory_wanting, done_is_whole, opened_is_whole}
+use Rattle.cds_desk.proofs.SessionLaws.{is_unserved, never_both, no_step_after, opened_is_whole, unserved_after, unserved_anyway}
+use Rattle.cds_desk.proofs.SessionLaws.{not_for_words, unserved_for_memory, source_failed, sink_failed, memory_wanting, done_is_whole}
+use Rattle.cds_desk.proofs.SessionLaws.{wanting_undamaged}
 use Rattle.cds_desk.proofs.TurnLaws.{at_most}
 use Rattle.cds_desk.proofs.session.session.Goals as goal
 
-pub returns-in-Err-Damaged-clause-ran : goal.returns-in-Err-Damaged-clause-ran
-returns-in-Err-Damaged-clause-ran g c =
-    let found = c.load.ensures.damage c.in-Err-Damaged.number (c.in-Err-Damaged.is ∙ ap Err c.in-Err-Damaged.field-0-is) in
-    let sent = rw c.in-Err-Damaged.number-is at c.tell_damage.ensures.sent in
+pub returns-in-Err-clause-ran : goal.returns-in-Err-clause-ran
+returns-in-Err-clause-ran g c =
+    let un = c.in-Err.ensures.unopened in
+    let is = is_unserved _ un.ends in
     record {
-      is_command = search rules;
-      served = search rules;
+      is_command = is.no_words;
+      served = λ gone. absurd (never_both _ gone un.ends);
       unserved = λ _. record {
-        stores_nothing = search rules;
-        loads_once = search rules;
-        reads_nothing = search rules;
-        takes_no_step = search rules;
-        asks_no_clock = search rules;
-        count_stays = search rules;
-        keeper_failed = search rules;
-        damaged = λ _. (c.in-Err-Damaged.number, damage_found _ _ found, sent);
+        unopened = un;
+        stores_nothing = c.open_store.ensures.found;
+        reads_nothing = refl;
+        quiet = c.in-Err.ensures.quiet_else;
+        counts = c.open_store.ensures.counts.0;
+        no_step = c.open_store.ensures.no_step;
+        asks_no_clock = refl;
       };
-      damaged_only = search rules;
-      failed_write = search rules;
-      keeper_counts = search rules;
+      damaged_only = unserved_anyway _ _ un.ends;
+      failed_write = λ gone _. absurd (never_both _ gone un.ends);
+      keeper_counts = c.open_store.ensures.counts.1;
+    }
+
+pub returns-in-Err-clause-ends : goal.returns-in-Err-clause-ends
+returns-in-Err-clause-ends g c =
+    let is = is_unserved _ c.in-Err.ensures.unopened.ends in
+    record {
+      failed_read = λ _. refl;
+      source_failed = λ e. absurd (is.no_source e);
+      sink_failed = λ e. absurd (is.no_sink e);
+      done_failed_no_write = λ e. absurd (is.no_end e);
+      no_memory_writes_nothing = λ e. c.in-Err.ensures.quiet_else (wanting_undamaged _ e);
+      source_counts = omega arith;
+      sink_counts = c.open_store.ensures.counts.2;
     }
 
 pub returns-clause-ran : goal.returns-clause-ran
 returns-clause-ran g c =
     let e = c.serve_connection-ended.result in
-    let count : (g.K.Keeper.told c.load.new.self).faults ≡ (g.K.Keeper.told c.args.keeper.now).faults = c.in-Ok.ensures.count_stays (no_error _ _) in
+    let opened = c.in-Ok.ensures.opened in
+    let quiet = c.in-Ok.ensures.quiet in
+    let serving = c.serve_connection-ended.ensures in
     record {
       is_command = λ is. not_for_words e (sym c.status_of.ensures ∙ is);
       served = λ _. record {
         served = (
-          c.serve_connection-ended.result,
+          e,
           c.status_of.ensures,
-          served_until c.serve_connection-ended.result (g.K.Keeper.finds c.args.keeper.now c.args.store.now) (g.K.Keeper.finds c.serve_connection-ended.new.keeper c.args.store.now)
-              (g.K.Keeper.told c.args.keeper.now) (g.K.Keeper.told c.load.new.self) (g.K.Keeper.told c.serve_connection-ended.new.keeper)
-              c.in-Ok.records c.in-Ok-open.desk c.serve_connection-ended.new.self
-              (g.W.Sink.told c.args.sink.now).written (g.W.Sink.told c.serve_connection-ended.new.sink).written
-              (reading (g.S.Source.told c.args.source.now).given (g.S.Source.told c.args.source.now).left)
-              (reading (g.S.Source.told c.serve_connection-ended.new.source).given (g.S.Source.told c.serve_connection-ended.new.source).left)
-              c.args.steps.now c.serve_connection-ended.new.steps
-              (g.C.Clock.moments c.args.clock.now) (g.C.Clock.moments c.serve_connection-ended.new.clock)
-              c.in-Ok.ensures.found c.in-Ok.ensures.holds c.in-Ok.ensures.opened count c.in-Ok.ensures.called c.in-Ok-open.ensures.opens
-              (rw c.in-Ok-open.ensures.steps at c.serve_connection-ended.ensures.ends),
+          record {
+            keeper = g.K.Keeper.told c.open_store.new.keeper;
+            state = c.in-Ok.desk;
+            steps = c.open_store.new.steps;
+            opened = opened;
+            after = c.serve_connection-ended.new.self;
+            ends = rw quiet at serving.ends;
+          },
         );
-        stays_open = search rules;
-        finds_more = λ name.
-            (c.serve_connection-ended.ensures.finds name).more (at_most _ _ (finds_loaded _ _ _ (c.in-Ok.ensures.finds_list name) c.in-Ok.ensures.holds));
+        stays_open = serving.stays_open;
+        finds_more = λ name. (serving.finds name).more (at_most _ _ (c.in-Ok.ensures.finds name));
         finds_exactly = λ same below name.
-            (c.serve_connection-ended.ensures.finds name).exactly (same ∙ sym count) below
-            (finds_loaded _ _ _ (c.in-Ok.ensures.finds_list name) c.in-Ok.ensures.holds);
+            (serving.finds name).exactly (same ∙ sym opened.loaded.faults) below (c.in-Ok.ensures.finds name);
       };
       unserved = λ is.
-          let same = c.serve_connection-ended.ensures.no_memory (unserved_for_memory e (rw c.status_of.ensures at is)) in
+          let wanting = unserved_for_memory e (rw c.status_of.ensures at is) in
+          let same = serving.no_memory wanting in
           record {
-            stores_nothing = ap (λ k. g.K.Keeper.finds k c.args.store.now) same.3
-                ∙ finds_again _ _ _ _ c.in-Ok.ensures.found (c.in-Ok.ensures.finds_list c.args.store.now) (c.load.ensures.tells_finds c.args.store.now);
-            loads_once = ap (λ k. (g.K.Keeper.told k).calls) same.3 ∙ c.in-Ok.ensures.called;
+            unopened = unserved_after _ e _ _ _ _ _ _ _ _ _ c.status_of.ensures wanting (ap (λ k. g.K.Keeper.told k) same.3) opened;
+            stores_nothing = ap (λ k. g.K.Keeper.finds k c.args.store.now) same.3 ∙ c.open_store.ensures.found;
             reads_nothing = same.1;
-            takes_no_step = same.4 ∙ c.in-Ok-open.ensures.steps;
+            quiet = λ _. same.2 ∙ quiet;
+            counts = omega (arith, same.4, c.open_store.ensures.counts.0);
+            no_step = no_step_after _ _ _ _ c.open_store.ensures.no_step same.4;
             asks_no_clock = same.5;
-            count_stays = λ _. ap (λ k. (g.K.Keeper.told k).faults) same.3 ∙ count;
-            keeper_failed = λ f. absurd (not_for_keeper e (sym c.status_of.ensures ∙ f));
-            damaged = λ f. absurd (not_for_damage e (sym c.status_of.ensures ∙ f));
           };
-      damaged_only = opened_is_whole (g.K.Keeper.finds c.args.keeper.now c.args.store.now) (g.K.Keeper.told c.load.new.self).content
-          c.in-Ok.records c.in-Ok-open.desk c.status_of.result c.in-Ok.ensures.found c.in-Ok-open.ensures.opens;
-      failed_write = λ _ other. c.serve_connection-ended.ensures.failed_write (λ is. other (c.status_of.ensures ∙ ap status_of is));
-      keeper_counts = search rules;
+      damaged_only = opened_is_whole _ _ _ _ _ _ c.status_of.result opened;
+      failed_write = λ _ other. serving.failed_write (λ is. other (c.status_of.ensures ∙ ap status_of is))
+          ∙ ap (λ s. (g.W.Sink.told s).faults) quiet;
+      keeper_counts = omega (arith, c.open_store.ensures.counts.1, serving.keeper_counts);
     }
 
 pub returns-clause-ends : goal.returns-clause-ends
 returns-clause-ends g c =
     let e = c.serve_connection-ended.result in
     let how = c.status_of.ensures in
+    let quiet = c.in-Ok.ensures.quiet in
+    let serving = c.serve_connection-ended.ensures in
     record {
-      failed_read = λ other. c.serve_connection-ended.ensures.failed_read (λ is. other (how ∙ ap status_of is));
-      source_failed = λ is. c.serve_connection-ended.ensures.source_failed (source_failed e (sym how ∙ is));
-      sink_failed = λ is. c.serve_connection-ended.ensures.sink_failed (sink_failed e (sym how ∙ is));
-      done_failed_no_write = λ is. c.serve_connection-ended.ensures.failed_write (done_is_whole e (sym how ∙ is));
-      no_memory_writes_nothing = λ is. (c.serve_connection-ended.ensures.no_memory (memory_wanting e (sym how ∙ is))).2;
-      source_counts = c.serve_connection-ended.ensures.source_counts;
-      sink_counts = c.serve_connection-ended.ensures.sink_counts;
+      failed_read = λ other. serving.failed_read (λ is. other (how ∙ ap status_of is));
+      source_failed = λ is. serving.source_failed (source_failed e (sym how ∙ is));
+      sink_failed = λ is. rw quiet at serving.sink_failed (sink_failed e (sym how ∙ is));
+      done_failed_no_write = λ is. serving.failed_write (done_is_whole e (sym how ∙ is)) ∙ ap (λ s. (g.W.Sink.told s).faults) quiet;
+      no_memory_writes_nothing = λ is. (serving.no_memory (memory_wanting e (sym how ∙ is))).2 ∙ quiet;
+      source_counts = serving.source_counts;
+      sink_counts = omega (arith, serving.sink_counts, c.open_store.ensures.counts.2);
     }
