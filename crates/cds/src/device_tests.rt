@@ -1,9 +1,16 @@
 //! The devices of the system, over a reader and a writer whose calls go as a list says.
 ghost use Rattle.std.specs.Prelude.{◌≤◌, IfOk};
 
+use crate::clock::SystemClock;
 use crate::devices::{ReaderSource, WriterSink};
-use cds_base::{Failed, Sink, Source};
+use crate::door::ListenerDoor;
+use crate::store::StoreKeeper;
+use cds_base::{Clock, Door, Failed, MOMENT_LIMIT, Sink, Source};
+use cds_keep::{Keeper, LoadError, MapKeeper};
+use cds_keep_sql::SqlKeeper;
+use std::fs;
 use std::io::{self, ErrorKind, Read, Write};
+use std::net::{Shutdown, TcpStream};
 use std::test::Fail;
 
 /// How a call of the system goes.
@@ -129,5 +136,64 @@ fn bytes_count_as_written_where_the_writer_took_them(rt: HostRuntime) -> Result<
         assert_eq!(rt; sink.write(b"abcd"), result);
         assert_eq!(rt; sink.writer.taken.as_slice(), taken);
     }
+    Ok(())
+}
+
+// A client connects, writes and shuts its writing side before its connection is taken. The server reads what it wrote, and
+// the client what the server writes.
+#[test]
+fn a_connection_is_taken_and_closed(rt: HostRuntime) -> Result<(), Fail> {
+    let mut door = ListenerDoor::new(&rt);
+    assert!(rt; door.next().is_err());
+    door.open(0)?;
+    let address = door.address()?;
+    let mut client = TcpStream::connect(&rt, address)?;
+    client.write_all(b"asked")?;
+    client.shutdown(Shutdown::Write)?;
+    let (mut input, mut output) = door.next()?;
+    let mut room = [b'-'; 9];
+    assert_eq!(rt; input.read(&mut room), Ok(5));
+    assert_eq!(rt; room, *b"asked----");
+    assert_eq!(rt; input.read(&mut room), Ok(0));
+    assert_eq!(rt; output.write(b"answered"), Ok(8));
+    door.close(input, output);
+    let answer = io::read_to_string(rt.alloc(), client)?;
+    assert_eq!(rt; answer.as_str(), "answered");
+    Ok(())
+}
+
+#[test]
+fn the_clock_of_the_system_stands_in_its_range(rt: HostRuntime) -> Result<(), Fail> {
+    let mut clock = SystemClock::new(&rt);
+    let moment = clock.now();
+    assert!(rt; 1_700_000_000 < moment && moment < MOMENT_LIMIT);
+    Ok(())
+}
+
+// Puts a record into the store of this name, and answers how many it had.
+fn put_behind(keeper: &mut StoreKeeper<'_>, name: &str) -> Result<u64, Fail> {
+    let records = keeper.load(name)?;
+    keeper.put(b"record")?;
+    Ok(records.len())
+}
+
+// The empty name is the store in memory, another one a file.
+#[test]
+fn the_name_picks_the_store(rt: HostRuntime) -> Result<(), Fail> {
+    let _ = fs::remove_dir_all(&rt, "cds_stores");
+    fs::create_dir(&rt, "cds_stores")?;
+    let mut keeper = StoreKeeper::new(MapKeeper::new(rt.alloc(), &[])?, SqlKeeper::new(&rt));
+    for (name, before) in [
+        ("", 0),
+        ("cds_stores/a.db", 0),
+        ("", 1),
+        ("cds_stores/a.db", 1),
+    ] {
+        assert_eq!(rt; keeper.load(name)?.len(), before, "{name}");
+        assert_eq!(rt; keeper.put(b"record"), Ok(()), "{name}");
+    }
+    assert!(rt; matches!(keeper.load("cds_stores/none/a.db"), Err(LoadError::Failed)));
+    keeper.close();
+    fs::remove_dir_all(&rt, "cds_stores")?;
     Ok(())
 }

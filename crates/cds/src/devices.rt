@@ -24,6 +24,13 @@ impl<R: Read + Drop> ReaderSource<R> {
             faults: 0,
         }
     }
+
+    /// The reader, for what comes behind the serving.
+    pub fn into_reader(self) -> R
+        ensures { result ≡ self.reader }
+    {
+        self.reader
+    }
 }
 
 impl<R: Read + Drop> Source for ReaderSource<R> {

@@ -1,21 +1,27 @@
 //! The program `cds`: the top call over the real devices.
 #![tactic(auto)]
 
+mod clock;
 #[cfg(test)]
 mod device_tests;
 mod devices;
+mod door;
+mod store;
 
 ghost use Rattle.std.specs.Prelude.{◌≡◌, ◌<◌};
 
-use cds_base::{Clock, Door, FixedClock, MemDoor, Sink, Source, Steps};
+use cds_base::{Clock, Door, Sink, Source, Steps};
 use cds_keep::{Keeper, MapKeeper};
+use cds_keep_sql::SqlKeeper;
+use clock::SystemClock;
 use devices::{ReaderSource, WriterSink};
+use door::ListenerDoor;
 use std::alloc::Global;
-use std::collections::VecDeque;
 use std::marker::Brand;
 use std::process::ExitCode;
 use std::sync::ledger::{Blank, Ledger};
 use std::{env, io};
+use store::StoreKeeper;
 
 fn main(rt: HostRuntime) -> ExitCode {
     let words = match env::args(&rt) {
@@ -30,20 +36,18 @@ fn main(rt: HostRuntime) -> ExitCode {
     ExitCode::from(over_devices(&rt, &words))
 }
 
-/// The top call over the real standard input and output. The store, the clock and the door are those in memory until
-/// their real ones come: the store holds nothing, and no command asks the clock or opens the door yet.
+/// The top call over the real standard input and output, and the stores, the clock and the network of the system.
 fn over_devices(rt: &HostRuntime, words: &[String]) -> u8 {
     let alloc = rt.alloc();
-    let (Ok(mut keeper), Ok(mut clock), Ok(mut door)) = (
-        MapKeeper::new(alloc, &[]),
-        FixedClock::new(alloc, &[], 0),
-        MemDoor::new(alloc, VecDeque::new(alloc), &[]),
-    ) else {
+    let Ok(memory) = MapKeeper::new(alloc, &[]) else {
         return cds_desk::Status::NoMemory.number();
     };
+    let mut keeper = StoreKeeper::new(memory, SqlKeeper::new(rt));
+    let mut clock = SystemClock::new(rt);
+    let mut door = ListenerDoor::new(rt);
     let mut source = ReaderSource::new(rt.stdin());
     let mut sink = WriterSink::new(rt.stdout());
-    run::<_, _, _, _, _, Brand>(
+    let status = run::<_, _, _, _, _, Brand>(
         Blank::new(1),
         alloc,
         words,
@@ -52,7 +56,9 @@ fn over_devices(rt: &HostRuntime, words: &[String]) -> u8 {
         &mut keeper,
         &mut clock,
         &mut door,
-    )
+    );
+    keeper.close();
+    status
 }
 
 /// The top call, with a counter of steps of its own.
