@@ -43,28 +43,6 @@ pub(crate) fn over<K: Keeper>(
     at_moments(alloc, words, source, sink, keeper, &[])
 }
 
-// The status of the top call over this door, without a byte of input.
-pub(crate) fn through<K: Keeper>(
-    alloc: Global,
-    words: &[String],
-    keeper: &mut K,
-    door: &mut MemDoor,
-) -> Result<u8, Fail> {
-    let mut source = MemSource::new(alloc, b"", 1, &[])?;
-    let mut sink = MemSink::new(alloc, 64, &[])?;
-    let mut clock = FixedClock::new(alloc, &[], 0)?;
-    Ok(counted::<MemSource, MemSink, K, FixedClock, MemDoor, Brand>(
-        Blank::new(1),
-        alloc,
-        words,
-        &mut source,
-        &mut sink,
-        keeper,
-        &mut clock,
-        door,
-    ))
-}
-
 // The same, with a clock that answers these moments, and then 0.
 pub(crate) fn at_moments<K: Keeper>(
     alloc: Global,

@@ -1,11 +1,10 @@
 //! Tests of the top call: what is written and the status, for the words, the bytes of the source, and the calls that
 //! fail. Each table is one test, and each row is one run.
 
-use crate::test_devices::{Damaged, over, through, words_of};
-use cds_base::{MemDoor, MemSink, MemSource};
+use crate::test_devices::{Damaged, over, words_of};
+use cds_base::{MemSink, MemSource};
 use cds_keep::{Keeper, MapKeeper};
 use std::alloc::Global;
-use std::collections::VecDeque;
 use std::test::Fail;
 
 const PEAKS: &str = "peaks --bunch 1 --on 5 --off 5 --plateau 3";
@@ -412,33 +411,6 @@ fn what_a_session_keeps_is_found_by_the_next(rt: HostRuntime) -> Result<(), Fail
     );
     assert_eq!(rt; sink.written(), b"damaged 3\n".as_slice());
     assert_eq!(rt; source.left(), FREEZE.as_bytes());
-    Ok(())
-}
-
-// Two connections are served over one store, the second over what the first left, though the sink of the first fails; a
-// third is asked for and there is none.
-#[test]
-fn connections_are_served_one_after_the_other(rt: HostRuntime) -> Result<(), Fail> {
-    let alloc = rt.alloc();
-    let mut coming = VecDeque::new(alloc);
-    let first = MemSource::new(alloc, FREEZE.as_bytes(), 64, &[])?;
-    coming.push_back((first, MemSink::new(alloc, 64, &[3])?))?;
-    let second = MemSource::new(alloc, b"GET /methods/m/versions/1 HTTP/1.0\r\n\r\n", 7, &[])?;
-    coming.push_back((second, MemSink::new(alloc, 64, &[])?))?;
-    let mut door = MemDoor::new(alloc, coming, &[])?;
-    let mut keeper = MapKeeper::new(alloc, &[])?;
-    let words = words_of(alloc, "serve --port 80 --connections=3")?;
-    assert_eq!(rt; through(alloc, &words, &mut keeper, &mut door)?, 7);
-    assert_eq!(rt; door.port(), Some(80));
-    assert_eq!(rt; door.closed().len(), 2);
-    assert_eq!(rt; keeper.content().len(), 2);
-    let (source, sink) = &door.closed()[1];
-    assert_eq!(rt; source.left().len(), 0);
-    assert!(rt;
-        sink.written().starts_with(
-            b"HTTP/1.1 200 OK\r\nContent-Type: application/toml\r\nContent-Length: 115\r\n"
-        )
-    );
     Ok(())
 }
 
